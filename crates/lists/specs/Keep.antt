@@ -1,0 +1,60 @@
+-- Laws of the elements that pass a test, and of a fact of every element.
+use Prim.Native.Nat.{_≤_}
+use mathlib.Core.Path.{_≡_, refl}
+use mathlib.Core.Bool.{Bool, true, false}
+use mathlib.Core.List.{List, [], _∷_, _++_, map}
+use native.Mathlib.Omega.{arith}
+use lib.ListN.{length}
+use Rattle.lists.specs.Lists.{push, keep, All}
+
+module _ {A : Type 0} where
+  pub push-append : (b : Bool) (x : A) (l m : List A) → push b x l ++ m ≡ push b x (l ++ m)
+  push-append true x l m = refl
+  push-append false x l m = refl
+
+  pub keep-append : (p : A → Bool) (l m : List A) → keep p (l ++ m) ≡ keep p l ++ keep p m
+  keep-append p [] m = refl
+  keep-append p (x ∷ l) m = rw (keep-append p l m, push-append)
+
+  pub All-push : (P : A → Type 0) (b : Bool) (x : A) (l : List A) → P x → All P l → All P (push b x l)
+  All-push P true x l h k = (h, k)
+  All-push P false x l h k = k
+
+  pub All-keep : (P : A → Type 0) (p : A → Bool) (l : List A) → All P l → All P (keep p l)
+  All-keep P p [] h = tt
+  All-keep P p (x ∷ l) h = All-push P (p x) x (keep p l) (h .0) (All-keep P p l (h .1))
+
+  pub All-both : (P Q : A → Type 0) (l : List A) → All P l → All Q l → All (λ x. P x × Q x) l
+  All-both P Q [] h k = tt
+  All-both P Q (x ∷ l) h k = ((h .0, k .0), All-both P Q l (h .1) (k .1))
+
+  -- what is kept passes the test
+  pub All-kept : (p : A → Bool) (l : List A) → All (λ x. p x ≡ true) (keep p l)
+  All-kept p [] = tt
+  All-kept p (x ∷ l) = go (p x) refl (All-kept p l)
+    where
+      go : (b : Bool) → p x ≡ b → All (λ y. p y ≡ true) (keep p l) → All (λ y. p y ≡ true) (push b x (keep p l))
+      go true e h = (e, h)
+      go false e h = h
+
+  -- a list none of whose elements passes; one all of whose elements pass
+  pub keep-none : (p : A → Bool) (l : List A) → All (λ x. p x ≡ false) l → keep p l ≡ []
+  keep-none p [] h = refl
+  keep-none p (x ∷ l) h = rw (h .0) (keep-none p l (h .1))
+
+pub keep-map : {A B : Type 0} (p : B → Bool) (f : A → B) (l : List A) → keep p (map f l) ≡ map f (keep (λ x. p (f x)) l)
+keep-map p f [] = refl
+keep-map {A} {B} p f (x ∷ l) = rw (keep-map p f l) (go (p (f x)))
+  where
+    go : (b : Bool) → push b (f x) (map f (keep (λ y. p (f y)) l)) ≡ map f (push b x (keep (λ y. p (f y)) l))
+    go true = refl
+    go false = refl
+
+-- no more is kept than was there
+pub keep-length : {A : Type 0} (p : A → Bool) (l : List A) → length (keep p l) ≤ length l
+keep-length p [] = omega arith
+keep-length p (x ∷ l) = go (p x) (keep-length p l)
+  where
+    go : (b : Bool) → length (keep p l) ≤ length l → length (push b x (keep p l)) ≤ length (x ∷ l)
+    go true h = omega arith
+    go false h = omega arith

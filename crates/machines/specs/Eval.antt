@@ -1,0 +1,41 @@
+-- Document 01, "The rules": the value of an expression, worked out from its tree.
+use Prim.Native.Nat.{ℕ, _+_, _/_, _%_, _^_}
+use mathlib.Core.Bool.{Bool}
+use lib.Dec.{eqb}
+use lib.ListN.{getD}
+use Rattle.values.specs.declared.Value.{Value}
+use Rattle.values.specs.declared.Value.the-variants.{Undefined as undefined, Bool as vbool}
+use Rattle.values.specs.Values.{idOf, checked, apply1, apply2}
+use Rattle.values.specs.declared.Unary.{Unary}
+use Rattle.values.specs.declared.Binary.{Binary}
+use Rattle.programs.specs.declared.Leaf.{Leaf}
+use Rattle.programs.specs.declared.Leaf.the-variants.{Bot as bot, Int as intVal, Bool as boolVal, Var as var, This as this, Msg as msg, Arg as arg, Star as star}
+use Rattle.programs.specs.Program.{Program, place}
+use Rattle.programs.specs.Trees.{Tree, tip, one, two, tree, stars}
+use Rattle.machines.specs.Config.{Local}
+
+-- "`star` number k of a statement, counted from 0 left to right, is bit k of the choice (bit 0 the lowest)."
+abbrev pub bit : ℕ → ℕ → Bool
+bit w k = eqb ((w / 2 ^ k) % 2) 1
+
+-- In machine i, whose local part is l, under the choice's bits w, where the first star is number k. (A program that is accepted has no int out of
+-- range, so `checked` changes none.)
+module _ (p : Program) (i : ℕ) (l : Local) (w : ℕ) where
+  abbrev leafValue : ℕ → Leaf → Value
+  leafValue k (intVal z) = checked z
+  leafValue k (boolVal b) = vbool b
+  leafValue k (var x) = getD (l .variables) (place p (l .kind) x) undefined
+  leafValue k this = idOf i
+  leafValue k msg = l .msg
+  leafValue k arg = l .arg
+  leafValue k bot = undefined
+  leafValue k star = vbool (bit w k)
+
+  unfoldable pub value : ℕ → Tree → Value
+  value k (tip x) = leafValue k x
+  value k (one o t) = apply1 o (value k t)
+  value k (two o s t) = apply2 o (value k s) (value (k + stars s) t)
+
+  -- the value of expression e; 0 is the undefined value
+  abbrev pub eval : ℕ → ℕ → Value
+  eval k e = value k (tree p e)

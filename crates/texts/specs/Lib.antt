@@ -1,0 +1,6 @@
+-- the line format and the answer to a text, to be read in this order
+pub mod Bytes
+pub mod Numbers
+pub mod Forms
+pub mod Reading
+pub mod Answered
