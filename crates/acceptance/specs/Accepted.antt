@@ -1,11 +1,10 @@
 -- Document 01, "A configuration": "A configuration is accepted when ...".
-use Prim.Native.Nat.{ℕ, suc, _+_, _≤_, _<_}
+use Prim.Native.Nat.{ℕ, _+_, _≤_, _<_}
 use mathlib.Core.Path.{_≡_}
 use mathlib.Core.Logic.{_⊎_}
 use mathlib.Core.Option.{Option, none, some}
-use mathlib.Core.Bool.{Bool, true, false, _&&_, _||_}
+use mathlib.Core.Bool.{true, false}
 use mathlib.Core.List.{List, [], _∷_}
-use lib.Dec.{eqb}
 use lib.ListN.{length}
 use Rattle.lists.specs.Lists.{All, There}
 use Rattle.values.specs.declared.Ty.{Ty}
@@ -41,9 +40,11 @@ module _ (p : Program) (next : ℕ) where
   TypedAll (x ∷ xs) [] = ⊥
   TypedAll (x ∷ xs) (v ∷ vs) = Typed (x .type) v × TypedAll xs vs
 
+  -- a pair: its event is there and its value of the event's type
   abbrev pub PairOk : Pair → Type 0
   PairOk x = There (length (p .events)) (x .event) × Typed (eventType p (x .event)) (x .value)
 
+  -- "A pending raise's value is of its event's type" (readings)
   abbrev pub PendingOk : Pending → Type 0
   PendingOk idle = Unit {0}
   PendingOk (raising e v) = PairOk (record { event = e; value = v })
@@ -56,6 +57,7 @@ module _ (p : Program) (k : ℕ) where
   ReplyOk deferred = Unit {0}
   ReplyOk nothing = Unit {0}
 
+  -- (n, α): the state is of the kind, the map has an entry for each event
   pub record FrameOk (f : Frame) : Type 0 where
     pub there : There (length (p .states)) (f .state)
     pub suited : stateAt p (f .state) .of ≡ k
@@ -70,6 +72,7 @@ module _ (p : Program) (k : ℕ) where
 abbrev pub NoSeq : Program → ℕ → Type 0
 NoSeq p s = isSeq (stmtAt p s) ≡ none
 
+-- both rules of form
 abbrev pub Formed : Program → List ℕ → Pending → Type 0
 Formed p [] q = Unit {0}
 Formed p (s ∷ t ∷ r) q = NoSeq p s
@@ -83,15 +86,18 @@ counted idle = 0
 counted (raising e v) = 1
 counted returning = 1
 
+-- of each part, with those behind it
 abbrev pub Heights : Program → ℕ → List ℕ → Type 0
 Heights p q [] = Unit {0}
 Heights p q (s ∷ r) = (height p s + (length r + q) ≤ ROW) × Heights p q r
 
+-- a row with what is pending
 pub record RowOk (p : Program) (k : ℕ) (r : List ℕ) (q : Pending) : Type 0 where
   pub suited : All (PartOk p k) r
   pub formed : Formed p r q
   pub heights : Heights p (counted q) r
 
+-- a local part
 pub record LocalOk (p : Program) (next : ℕ) (l : Local) : Type 0 where
   pub kind-there : There (p .machines) (l .kind)
   pub depth : length (l .stack) ≤ STACK
@@ -107,6 +113,7 @@ abbrev pub NoneTwice : List Pair → Type 0
 NoneTwice [] = Unit {0}
 NoneTwice (x ∷ q) = (waits x q ≡ false) × NoneTwice q
 
+-- a queue
 pub record QueueOk (p : Program) (next : ℕ) (q : List Pair) : Type 0 where
   pub size : length q ≤ QUEUE
   pub pairs : All (PairOk p next) q
@@ -119,6 +126,7 @@ pub record MachineOk (p : Program) (next : ℕ) (m : Machine) : Type 0 where
   pub loc-ok : LocalOk p next (m .loc)
   pub queue-ok : QueueOk p next (m .queue)
 
+-- a room: free, or with an accepted machine
 abbrev pub RoomOk : Program → ℕ → Option Machine → Type 0
 RoomOk p next none = Unit {0}
 RoomOk p next (some m) = MachineOk p next m
@@ -129,6 +137,7 @@ Distinct [] = Unit {0}
 Distinct (none ∷ rs) = Distinct rs
 Distinct (some m ∷ rs) = (find (m .this) rs ≡ none) × Distinct rs
 
+-- ACCEPTED
 pub record Accepted (p : Program) (c : Config) : Type 0 where
   pub rooms-32 : length (c .rooms) ≡ LIVE
   pub each-room : All (RoomOk p (c .next)) (c .rooms)

@@ -1,11 +1,8 @@
 -- Acceptance as a test, and that the test tells, both ways.
-use Prim.Native.Nat.{ℕ, _+_, _≤_, _<_}
-use mathlib.Core.Path.{_≡_, refl, sym}
-use mathlib.Core.Logic.{_⊎_, inl, inr}
-use mathlib.Core.Option.{Option, none, some, Option·none-ne-some}
-use mathlib.Core.Bool.{Bool, true, false, not, _&&_, _||_, true≢false}
+use Prim.Native.Nat.{ℕ, _+_}
+use mathlib.Core.Option.{Option, none, some}
+use mathlib.Core.Bool.{Bool, true, false, not, _&&_, _||_}
 use mathlib.Core.List.{List, [], _∷_}
-use borrow.Author.Tests.{eqb-true, eq-eqb, leb-true, le-leb, ltb-true, lt-ltb}
 use lib.Dec.{eqb, leb, ltb}
 use lib.ListN.{length}
 use Rattle.lists.specs.Lists.{all, isSome, there}
@@ -25,6 +22,7 @@ use Rattle.acceptance.specs.Accepted.{ValueOk, Typed, TypedAll, PairOk, 
 
 -- ACCEPTANCE, test by test
 module _ (p : Program) (next : ℕ) where
+  -- decides ValueOk
   abbrev pub okValue : Value → Bool
   okValue undefined = true
   okValue (vbool b) = true
@@ -39,12 +37,14 @@ module _ (p : Program) (next : ℕ) where
   value-is (vevent e) = there-is (length (p .events)) e
   value-is (vid i) = both (at-most 1 (i .0)) (less (i .0) next)
 
+  -- decides Typed
   abbrev pub typed : Ty → Value → Bool
   typed t v = okValue v && suits t v
 
   typed-is : (t : Ty) (v : Value) → Tells (typed t v) (Typed p next t v)
   typed-is t v = both (value-is v) (itself (suits t v))
 
+  -- decides TypedAll
   abbrev pub typedAll : List Variable → List Value → Bool
   typedAll [] [] = true
   typedAll [] (v ∷ vs) = false
@@ -57,12 +57,14 @@ module _ (p : Program) (next : ℕ) where
   typed-all-is (x ∷ xs) [] = never
   typed-all-is (x ∷ xs) (v ∷ vs) = both (typed-is (x .type) v) (typed-all-is xs vs)
 
+  -- decides PairOk
   abbrev pub okPair : Pair → Bool
   okPair x = there (length (p .events)) (x .event) && typed (eventType p (x .event)) (x .value)
 
   pair-is : (x : Pair) → Tells (okPair x) (PairOk p next x)
   pair-is x = both (there-is (length (p .events)) (x .event)) (typed-is (eventType p (x .event)) (x .value))
 
+  -- decides PendingOk
   abbrev pub okPending : Pending → Bool
   okPending idle = true
   okPending (raising e v) = okPair (record { event = e; value = v })
@@ -74,6 +76,7 @@ module _ (p : Program) (next : ℕ) where
   pending-is returning = always
 
 module _ (p : Program) (k : ℕ) where
+  -- decides ReplyOk
   abbrev pub okReply : Reply → Bool
   okReply (action a) = there (length (p .actions)) a && eqb (actionAt p a .of) k
   okReply deferred = true
@@ -84,6 +87,7 @@ module _ (p : Program) (k : ℕ) where
   reply-is deferred = always
   reply-is nothing = always
 
+  -- decides FrameOk
   abbrev pub okFrame : Frame → Bool
   okFrame f = there (length (p .states)) (f .state) && (eqb (stateAt p (f .state) .of) k && (eqb (length (f .map)) (length (p .events)) && all okReply (f .map)))
 
@@ -91,15 +95,18 @@ module _ (p : Program) (k : ℕ) where
   frame-is f = form (both (there-is (length (p .states)) (f .state)) (both (equal (stateAt p (f .state) .of) k) (both (equal (length (f .map)) (length (p .events))) (every (f .map) reply-is))))
       (λ h. record { there = h .0; suited = h .1 .0; each-event = h .1 .1 .0; replies = h .1 .1 .1 }) (λ h. (h .there, (h .suited, (h .each-event, h .replies))))
 
+  -- decides PartOk
   abbrev pub okPart : ℕ → Bool
   okPart s = eqb s 0 || (there (length (p .stmts)) s && serves p k s)
 
   part-is : (s : ℕ) → Tells (okPart s) (PartOk p k s)
   part-is s = either (equal s 0) (both (there-is (length (p .stmts)) s) (itself (serves p k s)))
 
+-- decides NoSeq
 abbrev pub noSeq : Program → ℕ → Bool
 noSeq p s = not (isSome (isSeq (stmtAt p s)))
 
+-- decides Formed
 abbrev pub formed : Program → List ℕ → Pending → Bool
 formed p [] q = true
 formed p (s ∷ t ∷ r) q = noSeq p s
@@ -114,6 +121,7 @@ formed-is p (s ∷ []) idle = both (is-none (isSeq (stmtAt p s))) (isnt (isSkip 
 formed-is p (s ∷ []) (raising e v) = is-none (isSeq (stmtAt p s))
 formed-is p (s ∷ []) returning = is-none (isSeq (stmtAt p s))
 
+-- decides Heights
 abbrev pub okHeights : Program → ℕ → List ℕ → Bool
 okHeights p q [] = true
 okHeights p q (s ∷ r) = leb (height p s + (length r + q)) ROW && okHeights p q r
@@ -122,6 +130,7 @@ heights-are : (p : Program) (q : ℕ) (r : List ℕ) → Tells (okHeights p q r)
 heights-are p q [] = always
 heights-are p q (s ∷ r) = both (at-most (height p s + (length r + q)) ROW) (heights-are p q r)
 
+-- decides RowOk
 abbrev pub okRow : Program → ℕ → List ℕ → Pending → Bool
 okRow p k r q = all (okPart p k) r && (formed p r q && okHeights p (counted q) r)
 
@@ -129,6 +138,7 @@ row-is : (p : Program) (k : ℕ) (r : List ℕ) (q : Pending) → Tells (okRow p
 row-is p k r q = form (both (every r (part-is p k)) (both (formed-is p r q) (heights-are p (counted q) r)))
     (λ h. record { suited = h .0; formed = h .1 .0; heights = h .1 .1 }) (λ h. (h .suited, (h .formed, h .heights)))
 
+-- decides LocalOk
 abbrev pub okLocal : Program → ℕ → Local → Bool
 okLocal p next l = there (p .machines) (l .kind) && (leb (length (l .stack)) STACK && (all (okFrame p (l .kind)) (l .stack) && (typedAll p next (variablesOf p (l .kind)) (l .variables)
     && (typed p next event (l .msg) && (okValue p next (l .arg) && (okRow p (l .kind) (l .row) (l .pending) && okPending p next (l .pending)))))))
@@ -140,6 +150,7 @@ local-is p next l = form
     (λ h. record { kind-there = h .0; depth = h .1 .0; frames = h .1 .1 .0; vars = h .1 .1 .1 .0; msg-ok = h .1 .1 .1 .1 .0; arg-ok = h .1 .1 .1 .1 .1 .0; row-ok = h .1 .1 .1 .1 .1 .1 .0; pending-ok = h .1 .1 .1 .1 .1 .1 .1 })
     (λ h. (h .kind-there, (h .depth, (h .frames, (h .vars, (h .msg-ok, (h .arg-ok, (h .row-ok, h .pending-ok))))))))
 
+-- decides NoneTwice
 abbrev pub noneTwice : List Pair → Bool
 noneTwice [] = true
 noneTwice (x ∷ q) = not (waits x q) && noneTwice q
@@ -148,6 +159,7 @@ none-twice-is : (q : List Pair) → Tells (noneTwice q) (NoneTwice q)
 none-twice-is [] = always
 none-twice-is (x ∷ q) = both (isnt (waits x q)) (none-twice-is q)
 
+-- decides QueueOk
 abbrev pub okQueue : Program → ℕ → List Pair → Bool
 okQueue p next q = leb (length q) QUEUE && (all (okPair p next) q && noneTwice q)
 
@@ -155,6 +167,7 @@ queue-is : (p : Program) (next : ℕ) (q : List Pair) → Tells (okQueue p next 
 queue-is p next q = form (both (at-most (length q) QUEUE) (both (every q (pair-is p next)) (none-twice-is q)))
     (λ h. record { size = h .0; pairs = h .1 .0; once = h .1 .1 }) (λ h. (h .size, (h .pairs, h .once)))
 
+-- decides RoomOk
 abbrev pub okRoom : Program → ℕ → Option Machine → Bool
 okRoom p next none = true
 okRoom p next (some m) = leb 1 (m .this) && (ltb (m .this) next && (okLocal p next (m .loc) && okQueue p next (m .queue)))
@@ -164,6 +177,7 @@ room-is p next none = always
 room-is p next (some m) = form (both (at-most 1 (m .this)) (both (less (m .this) next) (both (local-is p next (m .loc)) (queue-is p next (m .queue)))))
     (λ h. record { low = h .0; high = h .1 .0; loc-ok = h .1 .1 .0; queue-ok = h .1 .1 .1 }) (λ h. (h .low, (h .high, (h .loc-ok, h .queue-ok))))
 
+-- decides Distinct
 abbrev pub distinct : List (Option Machine) → Bool
 distinct [] = true
 distinct (none ∷ rs) = distinct rs
@@ -174,6 +188,7 @@ distinct-is [] = always
 distinct-is (none ∷ rs) = distinct-is rs
 distinct-is (some m ∷ rs) = both (is-none (find (m .this) rs)) (distinct-is rs)
 
+-- decides Accepted: THE TEST
 unfoldable pub accepted : Program → Config → Bool
 accepted p c = eqb (length (c .rooms)) LIVE && (all (okRoom p (c .next)) (c .rooms) && (distinct (c .rooms) && (leb 1 (c .next) && leb (c .next) SPENT)))
 

@@ -3,6 +3,7 @@ use Prim.Native.Nat.{ℕ}
 use Rattle.answers.specs.declared.Answer.{Answer}
 use Rattle.answers.specs.declared.Answer.the-variants.{Done, TextTooLong, NotInForm, OutOfRange, NotThere, NotLower, Doubled, ExitLeaves, TooHigh, NoState, AssertionFalse, SendToUndefined, SendToNotLive, StackEmpty, NotABool, WrongType, QueueFull, StackFull, NoRoom, UnableToStep, NotAccepted, BufferTooShort, TookNoStep}
 
+-- "no." of the table
 abbrev pub number : Answer → ℕ
 number Done = 0  -- "done"
 number TextTooLong = 1  -- "text over 60,000 bytes"

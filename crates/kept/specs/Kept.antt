@@ -5,17 +5,12 @@ use mathlib.Core.Option.{Option, none, some, Option·map, Option·none-ne-some, 
 use mathlib.Core.Bool.{Bool, true, false, cond, _||_}
 use mathlib.Core.List.{List, [], _∷_, _++_, map}
 use native.Mathlib.Omega.{arith}
-use borrow.Author.Tests.{eqb-true, eqb-false, eq-eqb, ne-eqb, ltb-true}
-use lib.Dec.{eqb, ltb}
-use lib.IntN.{pos, negsuc}
+use borrow.Author.Tests.{eqb-true, ne-eqb, ltb-true}
+use lib.Dec.{ltb}
 use lib.ListN.{length, length-append, replicate, length-map}
 use Rattle.lists.specs.Lists.{onOpt, All}
 use Rattle.lists.specs.Facts.{All-append, or-none}
-use Rattle.answers.specs.declared.Answer.{Answer}
 use Rattle.answers.specs.declared.Answer.the-variants.{NoRoom, QueueFull, SendToNotLive, UnableToStep, WrongType}
-use Rattle.values.specs.declared.Value.{Value}
-use Rattle.values.specs.declared.Value.the-variants.{Undefined as undefined, Bool as vbool, Int as vint, Event as vevent, Id as vid}
-use Rattle.values.specs.Values.{eqValue}
 use Rattle.programs.specs.Sizes.{QUEUE, SPENT}
 use Rattle.programs.specs.Program.{Program, variablesOf}
 use Rattle.runs.specs.Outcome.{took, refused, onOut}

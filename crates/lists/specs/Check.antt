@@ -1,6 +1,6 @@
 -- A check: a proposition together with the Bool test that decides it. What is put together from checks says at once what holds and how it is tested,
 -- so the predicate and its test cannot drift apart. A reader looks at `Holds`; a test computes `test`; `tells` ties the two, both ways.
-use Prim.Native.Nat.{ℕ, suc, _≤_, _<_}
+use Prim.Native.Nat.{ℕ, _≤_, _<_}
 use mathlib.Core.Path.{_≡_}
 use mathlib.Core.Bool.{Bool, true, false, not, _&&_, _||_}
 use mathlib.Core.List.{List, [], _∷_}
@@ -8,6 +8,7 @@ use lib.Dec.{eqb, leb, ltb}
 use Rattle.lists.specs.Lists.{All, There, there, upTo}
 use Rattle.lists.specs.Tells.{Tells, always, both, isnt, itself, given-is, at-most, less, equal, there-is, up-to-is}
 
+-- a proposition, its test, and that the test tells
 pub record Check : Type 1 where
   pub Holds : Type 0
   pub test : Bool
@@ -17,13 +18,16 @@ pub record Check : Type 1 where
 abbrev pub free : Check
 free = record { Holds = Unit {0}; test = true; tells = always }
 
+-- both
 abbrev pub _also_ : Check → Check → Check
 _also_ a b = record { Holds = a .Holds × b .Holds; test = a .test && b .test; tells = both (a .tells) (b .tells) }
 
 infixr 40 _also_
+-- a test holds
 abbrev pub isTrue : Bool → Check
 isTrue b = record { Holds = b ≡ true; test = b; tells = itself b }
 
+-- a test does not hold
 abbrev pub isFalse : Bool → Check
 isFalse b = record { Holds = b ≡ false; test = not b; tells = isnt b }
 
@@ -31,12 +35,15 @@ isFalse b = record { Holds = b ≡ false; test = not b; tells = isnt b }
 abbrev pub given : Bool → Check → Check
 given b c = record { Holds = b ≡ true → c .Holds; test = not b || c .test; tells = given-is b (c .tells) }
 
+-- m is at most n
 abbrev pub atMost : ℕ → ℕ → Check
 atMost m n = record { Holds = m ≤ n; test = leb m n; tells = at-most m n }
 
+-- m is below n
 abbrev pub under : ℕ → ℕ → Check
 under m n = record { Holds = m < n; test = ltb m n; tells = less m n }
 
+-- m is n
 abbrev pub equals : ℕ → ℕ → Check
 equals m n = record { Holds = m ≡ n; test = eqb m n; tells = equal m n }
 

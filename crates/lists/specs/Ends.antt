@@ -5,10 +5,12 @@ use mathlib.Core.List.{List, [], _∷_, _++_, map, append-assoc, cons-ne-nil}
 
 -- The list x ∷ l without its last element, and that element.
 module _ {A : Type 0} where
+  -- all of x ∷ l but the last
   abbrev pub initOf : A → List A → List A
   initOf x [] = []
   initOf x (y ∷ l) = x ∷ initOf y l
 
+  -- the last of x ∷ l
   abbrev pub lastOf : A → List A → A
   lastOf x [] = x
   lastOf x (y ∷ l) = lastOf y l
@@ -17,10 +19,12 @@ module _ {A : Type 0} where
   init-last x [] = refl
   init-last x (y ∷ l) = rw (init-last y l)
 
+  -- a list without its last element
   abbrev pub butLast : List A → List A
   butLast [] = []
   butLast (x ∷ l) = initOf x l
 
+  -- its last element, if there is one
   abbrev pub last? : List A → Option A
   last? [] = none
   last? (x ∷ l) = some (lastOf x l)

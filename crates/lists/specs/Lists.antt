@@ -11,6 +11,7 @@ abbrev pub onOpt : {A B : Type 0} → Option A → B → (A → B) → B
 onOpt none b f = b
 onOpt (some a) b f = f a
 
+-- something is there
 abbrev pub isSome : {A : Type 0} → Option A → Bool
 isSome none = false
 isSome (some a) = true
@@ -20,6 +21,7 @@ module _ {A : Type 0} where
   abbrev pub at : A → List A → ℕ → A
   at d l n = getD (d ∷ l) n d
 
+  -- x in front, if b
   abbrev pub push : Bool → A → List A → List A
   push true x l = x ∷ l
   push false x l = l
@@ -29,14 +31,17 @@ module _ {A : Type 0} where
   keep f [] = []
   keep f (x ∷ l) = push (f x) x (keep f l)
 
+  -- some element passes
   abbrev pub any : (A → Bool) → List A → Bool
   any f [] = false
   any f (x ∷ l) = f x || any f l
 
+  -- every element passes
   abbrev pub all : (A → Bool) → List A → Bool
   all f [] = true
   all f (x ∷ l) = f x && all f l
 
+  -- P of every element
   abbrev pub All : (A → Type 0) → List A → Type 0
   All P [] = Unit {0}
   All P (x ∷ l) = P x × All P l
@@ -46,6 +51,7 @@ module _ {A : Type 0} where
   most f [] = 0
   most f (x ∷ l) = max (f x) (most f l)
 
+  -- the sum
   abbrev pub total : (A → ℕ) → List A → ℕ
   total f [] = 0
   total f (x ∷ l) = f x + total f l
@@ -54,6 +60,7 @@ module _ {A : Type 0} where
 abbrev pub There : ℕ → ℕ → Type 0
 There size n = (1 ≤ n) × (n ≤ size)
 
+-- its test
 abbrev pub there : ℕ → ℕ → Bool
 there size n = leb 1 n && leb n size
 

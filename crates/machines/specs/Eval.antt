@@ -6,8 +6,6 @@ use lib.ListN.{getD}
 use Rattle.values.specs.declared.Value.{Value}
 use Rattle.values.specs.declared.Value.the-variants.{Undefined as undefined, Bool as vbool}
 use Rattle.values.specs.Values.{idOf, checked, apply1, apply2}
-use Rattle.values.specs.declared.Unary.{Unary}
-use Rattle.values.specs.declared.Binary.{Binary}
 use Rattle.programs.specs.declared.Leaf.{Leaf}
 use Rattle.programs.specs.declared.Leaf.the-variants.{Bot as bot, Int as intVal, Bool as boolVal, Var as var, This as this, Msg as msg, Arg as arg, Star as star}
 use Rattle.programs.specs.Program.{Program, place}
@@ -21,6 +19,7 @@ bit w k = eqb ((w / 2 ^ k) % 2) 1
 -- In machine i, whose local part is l, under the choice's bits w, where the first star is number k. (A program that is accepted has no int out of
 -- range, so `checked` changes none.)
 module _ (p : Program) (i : ℕ) (l : Local) (w : ℕ) where
+  -- the value of a leaf, where the next star is number k
   abbrev leafValue : ℕ → Leaf → Value
   leafValue k (intVal z) = checked z
   leafValue k (boolVal b) = vbool b
@@ -31,6 +30,7 @@ module _ (p : Program) (i : ℕ) (l : Local) (w : ℕ) where
   leafValue k bot = undefined
   leafValue k star = vbool (bit w k)
 
+  -- the value of a tree: "both sides" of an operator are worked out, left before right
   unfoldable pub value : ℕ → Tree → Value
   value k (tip x) = leafValue k x
   value k (one o t) = apply1 o (value k t)

@@ -8,11 +8,13 @@ use Rattle.lists.specs.Lists.{onOpt, isSome, at}
 use Rattle.programs.specs.Program.{Program, Exit, Deferred, Step, Call, ActionOf, Trans}
 use Rattle.machines.specs.Config.{Reply, action, deferred, nothing}
 
+-- an entry that is an action
 abbrev pub isAction : Reply → Option ℕ
 isAction (action a) = some a
 isAction deferred = none
 isAction nothing = none
 
+-- an entry that is ⊤
 abbrev pub isDeferred : Reply → Bool
 isDeferred (action a) = false
 isDeferred deferred = true
@@ -40,6 +42,7 @@ module _ (p : Program) where
   inheritsFrom n e [] = []
   inheritsFrom n e (x ∷ α) = inherits n e x ∷ inheritsFrom n (suc e) α
 
+  -- the whole map of the callee
   abbrev pub callMap : ℕ → List Reply → List Reply
   callMap n α = inheritsFrom n 1 α
 

@@ -1,7 +1,7 @@
 -- Numbers and names as the bytes that the programs write.
 use Prim.Native.Nat.{ℕ, zero, suc, _+_, _/_, _%_}
 use Prim.Native.String.{String}
-use mathlib.Core.Bool.{Bool, true, cond}
+use mathlib.Core.Bool.{cond}
 use mathlib.Core.List.{List, [], _∷_, _++_}
 use lib.Dec.{ltb}
 use Rattle.rules.specs.declared.Rule.{Rule}
@@ -28,6 +28,7 @@ field key n = bytes key ++ numeral n
 abbrev pub LF : List ℕ
 LF = 10 ∷ []
 
+-- `rule=ASSIGN`
 abbrev pub ruleName : Rule → String
 ruleName ASSIGN = "ASSIGN"
 ruleName NEW = "NEW"

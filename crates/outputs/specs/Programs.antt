@@ -1,12 +1,10 @@
 -- Document 01, "A session of the run program": what each of the two programs writes, as a function of the bytes that it reads.
 use Prim.Native.Nat.{ℕ, suc}
-use mathlib.Core.Option.{Option, none, some}
 use mathlib.Core.List.{List, [], _∷_, _++_}
 use Rattle.lists.specs.Lists.{onOpt, flat}
 use Rattle.answers.specs.declared.Answer.{Answer}
 use Rattle.answers.specs.declared.Answer.the-variants.{Done, TookNoStep}
 use Rattle.answers.specs.Number.{number}
-use Rattle.programs.specs.Program.{Program}
 use Rattle.machines.specs.Config.{Config, Choice}
 use Rattle.machines.specs.Rooms.{live}
 use Rattle.runs.specs.Run.{Ended, run, ruled}
@@ -32,6 +30,7 @@ stepLines n (x ∷ l) (R ∷ rs) = field "n=" n ++ (field " machine=" (x .machin
 abbrev pub endLine : Ended Config → List ℕ
 endLine e = field "end=" (number (e .answer)) ++ (field " steps=" (e .steps) ++ (field " live=" (live (e .config)) ++ LF))
 
+-- what the run program writes of the answer to its text
 abbrev pub runOutput : Result → List ℕ
 runOutput (refused a k) = refusal a k
 runOutput (loaded p l) = stepLines 1 l (ruled (step p) (startConfig p) l) ++ endLine (run (step p) (startConfig p) l)
@@ -44,6 +43,7 @@ runProgram t = runOutput (answered t)
 abbrev pub choiceLine : Choice → List ℕ
 choiceLine x = field "choice=" (x .machine) ++ (field " bits=" (x .bits) ++ LF)
 
+-- what the regroup program writes of the answer to its text
 abbrev pub regroupOutput : Result → List ℕ
 regroupOutput (refused a k) = refusal a k
 regroupOutput (loaded p l) = onOpt (regroup p (startConfig p) l) (field "end=" (number TookNoStep) ++ LF) (λ m. flat choiceLine m ++ (field "end=" (number Done) ++ LF))

@@ -25,6 +25,7 @@ use Rattle.outputs.specs.Programs.{runProgram, regroupProgram}
 abbrev text : List String → List ℕ
 text = flat (λ l. bytes l ++ LF)
 
+-- the lines of the program, but for its step line
 abbrev program : List String
 program =
     "event=1 type=void"
@@ -44,6 +45,7 @@ program =
 abbrev withStep : List ℕ
 withStep = text (program ++ "step=1 on=1 to=1" ∷ "start=1" ∷ replicate 6 "choice=1 bits=0")
 
+-- the first session, whole
 pub session : runProgram withStep ≡ text (
     "n=1 machine=1 rule=ASSIGN"
     ∷ "n=2 machine=1 rule=SEQ"

@@ -6,7 +6,7 @@ use mathlib.Core.Bool.{Bool, true, false, cond}
 use mathlib.Core.List.{List, [], _∷_, _++_, map}
 use native.Mathlib.Omega.{arith}
 use borrow.Author.Tests.{eqb-true}
-use lib.Dec.{eqb, ltb}
+use lib.Dec.{ltb}
 use lib.ListN.{length, length-append}
 use Rattle.lists.specs.Lists.{onOpt, total}
 use Rattle.programs.specs.Sizes.{QUEUE}
@@ -23,9 +23,10 @@ use Rattle.rules.specs.Act.{Act, alone, creates, deletes, sends, dequeues, refu
 use Rattle.rules.specs.Step.{Outcome, step, startConfig}
 use Rattle.rules.specs.Rules.{At, Takes}
 use Rattle.rules.specs.Match.{step-is}
-use Rattle.soundness.specs.Founded.{Founded}
+use Rattle.soundness.specs.Sound.{Sound}
 use Rattle.acceptance.specs.Accepted.{Distinct, Accepted}
-use Rattle.kept.specs.Kept.{distinct-each, step-keeps, start-accepted}
+use Rattle.kept.specs.Kept.{distinct-each}
+use Rattle.kept.specs.Theorem.{start-accepted, step-keeps}
 
 -- THE COUNTS
 -- pairs waiting in all queues
@@ -33,6 +34,7 @@ abbrev pub held : Option Machine → ℕ
 held none = 0
 held (some m) = length (m .queue)
 
+-- "pairs waiting"
 abbrev pub waiting : Config → ℕ
 waiting c = total held (c .rooms)
 
@@ -42,6 +44,7 @@ pub record Tally : Type 0 where
   pub dequeued : ℕ
   pub dropped : ℕ
 
+-- a tally of three counts
 abbrev tally : ℕ → ℕ → ℕ → Tally
 tally a d h = record { appended = a; dequeued = d; dropped = h }
 
@@ -55,6 +58,7 @@ appends c (sends t (some x) l) = onOpt (find t (c .rooms)) 0 (λ n. cond (waits 
 appends c dequeues = 0
 appends c (refuses a) = 0
 
+-- of the step that choice x takes by rule R
 abbrev pub tallyOf : Program → Config → Choice → Rule → Tally
 tallyOf p c x ASSIGN = tally 0 0 0
 tallyOf p c x NEW = tally 0 0 0
@@ -74,6 +78,7 @@ tallyOf p c x CALL = tally 0 0 0
 tallyOf p c x POP1 = tally 0 0 0
 tallyOf p c x POP2 = tally 0 0 0
 
+-- two tallies together
 abbrev pub plus : Tally → Tally → Tally
 plus s t = tally (s .appended + t .appended) (s .dequeued + t .dequeued) (s .dropped + t .dropped)
 
@@ -205,7 +210,7 @@ module _ (p : Program) (c : Config) (i w : ℕ) (d : Distinct (c .rooms)) where
   balanced (Takes.POP1 b h) = quiet _
   balanced (Takes.POP2 b) = quiet _
 
-module _ (p : Program) (founded : Founded p) where
+module _ (p : Program) (sound : Sound p) where
   -- from any accepted configuration
   pub pairs : (c : Config) (l : List Choice) → Accepted p c →
       waiting c + tallies p c l .appended ≡ tallies p c l .dequeued + waiting (run (step p) c l .config) + tallies p c l .dropped
@@ -217,7 +222,7 @@ module _ (p : Program) (founded : Founded p) where
           ≡ onOut o (λ R d. plus (tallyOf p c x R) (tallies p d l)) (λ a. tally 0 0 0) .dequeued
           + waiting (onOut o (λ R d. later 1 (run (step p) d l)) (λ a. record { config = c; answer = a; steps = 0 }) .config)
           + onOut o (λ R d. plus (tallyOf p c x R) (tallies p d l)) (λ a. tally 0 0 0) .dropped
-      go (took R d) e ih = omega (arith, balanced p c (x .machine) (x .bits) (h .distinct) (step-is p c (x .machine) (x .bits) .0 e), ih d (step-keeps p founded c d x R h e))
+      go (took R d) e ih = omega (arith, balanced p c (x .machine) (x .bits) (h .distinct) (step-is p c (x .machine) (x .bits) .0 e), ih d (step-keeps p sound c d x R h e))
       go (refused a) e ih = omega arith
 
   none-waits : waiting (startConfig p) ≡ 0
@@ -227,4 +232,4 @@ module _ (p : Program) (founded : Founded p) where
   -- "From the start configuration"
   pub pairs-start : (l : List Choice) →
       tallies p (startConfig p) l .appended ≡ tallies p (startConfig p) l .dequeued + waiting (run (step p) (startConfig p) l .config) + tallies p (startConfig p) l .dropped
-  pairs-start l = omega (arith, pairs (startConfig p) l (start-accepted p founded), none-waits)
+  pairs-start l = omega (arith, pairs (startConfig p) l (start-accepted p sound), none-waits)

@@ -3,7 +3,7 @@ use Prim.Native.Nat.{ℕ, _≤_, _<_}
 use mathlib.Core.Path.{_≡_, refl, sym, ap, _∙_, subst}
 use mathlib.Core.Logic.{_↔_}
 use mathlib.Core.Option.{Option, none, some, Option·none-ne-some}
-use mathlib.Core.Bool.{Bool, true, false, cond, _&&_, true≢false}
+use mathlib.Core.Bool.{Bool, true, false, cond, true≢false}
 use mathlib.Core.List.{List, [], _∷_}
 use native.Mathlib.Omega.{arith}
 use borrow.Author.Tests.{leb-true, leb-false, le-leb}
@@ -15,21 +15,21 @@ use Rattle.lists.specs.Ends.{butLast}
 use Rattle.answers.specs.declared.Answer.{Answer}
 use Rattle.answers.specs.declared.Answer.the-variants.{Done, OutOfRange, NotAccepted, BufferTooShort, TookNoStep}
 use Rattle.programs.specs.Sizes.{CHOICES}
-use Rattle.programs.specs.Program.{Program, Stmt, seq, stmtAt}
+use Rattle.programs.specs.Program.{Program}
 use Rattle.programs.specs.Statements.{isSeq}
 use Rattle.machines.specs.Config.{Pending, idle, raising, returning, Config, Choice}
 use Rattle.runs.specs.Outcome.{refused}
 use Rattle.runs.specs.Run.{Stepped, run}
-use Rattle.rules.specs.Step.{Outcome, step}
+use Rattle.rules.specs.Step.{step}
 use Rattle.rules.specs.Occasions.{SeqFirst, answer-20}
-use Rattle.soundness.specs.Sound.{Sound, sound, sound-is}
+use Rattle.soundness.specs.Sound.{Sound, sound-is}
 use Rattle.acceptance.specs.Accepted.{NoSeq, Formed, Accepted}
-use Rattle.acceptance.specs.Decide.{accepted, accepted-is}
+use Rattle.acceptance.specs.Decide.{accepted-is}
 use Rattle.kept.specs.Kept.{find-ok}
 use Rattle.regrouping.specs.Demand.{Regrouping}
 use Rattle.meetings.specs.Meetings.{meets, own, regroup}
 use Rattle.meetings.specs.Good.{regroup-good, no-list, a-list}
-use Rattle.public.specs.Public.{fit, publicStep, Ran, ran, stopped, publicRun, Wrote, wroteNothing, publicRegroup}
+use Rattle.public.specs.Public.{fit, publicStep, ran, stopped, publicRun, wroteNothing, publicRegroup}
 
 module _ (p : Program) (c : Config) where
   abbrev pub Fit : Type 0

@@ -1,8 +1,7 @@
 -- What the public functions add to step, run and regroup. Document 01, "Answers": "In a step: 20, 19, then 13 ..."; "20 and 3 stop it before the first
 -- choice, place 0"; "A lent list over 4,096 choices is answer 3, after 20, for run and regroup. Regroup gives 20, 3, 21, 22 in that order and on refusal
 -- writes nothing; on 0 it writes only the list's length. It never changes the configuration."
-use Prim.Native.Nat.{ℕ, suc}
-use mathlib.Core.Option.{Option, none, some}
+use Prim.Native.Nat.{ℕ}
 use mathlib.Core.Bool.{Bool, cond, _&&_}
 use mathlib.Core.List.{List, []}
 use lib.Dec.{leb}
@@ -24,6 +23,7 @@ use Rattle.meetings.specs.Meetings.{regroup}
 unfoldable pub fit : Program → Config → Bool
 fit p c = sound p && accepted p c
 
+-- THE STEP, as it is lent to anybody
 unfoldable pub publicStep : Program → Config → Choice → Outcome
 publicStep p c x = cond (fit p c) (step p c x) (refused NotAccepted)
 
@@ -34,12 +34,15 @@ pub record Ran : Type 0 where
   pub place : ℕ
   pub steps : ℕ
 
+-- of a run that was begun
 abbrev pub ran : Ended Config → Ran
 ran e = record { config = e .config; answer = e .answer; place = place e; steps = e .steps }
 
+-- of a run that was stopped before its first choice
 abbrev pub stopped : Config → Answer → Ran
 stopped c a = record { config = c; answer = a; place = 0; steps = 0 }
 
+-- THE RUN: 20, then 3, then choice by choice
 unfoldable pub publicRun : Program → Config → List Choice → Ran
 publicRun p c l = cond (fit p c) (cond (leb (length l) CHOICES) (ran (run (step p) c l)) (stopped c OutOfRange)) (stopped c NotAccepted)
 
@@ -48,6 +51,7 @@ pub record Wrote : Type 0 where
   pub answer : Answer
   pub list : List Choice
 
+-- "on refusal writes nothing"
 abbrev pub wroteNothing : Answer → Wrote
 wroteNothing a = record { answer = a; list = [] }
 

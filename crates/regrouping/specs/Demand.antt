@@ -18,9 +18,11 @@ use Rattle.regrouping.specs.Regrouped.{regrouped}
 abbrev pub choices : {X R : Type 0} → List (X × R) → List X
 choices m = map (λ e. e .0) m
 
+-- the machine of an entry
 abbrev pub ownE : {X : Type 0} (R : Type 0) → (X → ℕ) → X × R → ℕ
 ownE R own e = own (e .0)
 
+-- an entry is a meeting when its rule is one
 abbrev pub meetE : {R : Type 0} (X : Type 0) → (R → Bool) → X × R → Bool
 meetE X meets e = meets (e .1)
 
@@ -42,9 +44,14 @@ module _ {C X R : Type 0} (step : C → X → Out C R) where
 
     -- What the user asks of m, the list l regrouped.
     pub record Regrouping (c : C) (l m : List X) : Type 0 where
+      -- "holds the same choices"
       pub same-choices : List·Permᴰ l m
+      -- "each machine's in its old order"
       pub in-order : (k : ℕ) → keep (λ x. eqb (own x) k) m ≡ keep (λ x. eqb (own x) k) l
+      -- "the last still last"
       pub same-last : last? m ≡ last? l
+      -- "It changes machine only straight after a send, a creation, a deletion or a dequeue, or after a machine's last choice."
       pub changes : (p : List X) (a b : X) (q : List X) → m ≡ p ++ a ∷ b ∷ q → own a ≢ own b →
           MeetsAt c p a ⊎ (keep (λ x. eqb (own x) (own a)) (b ∷ q) ≡ [])
+      -- "Run from the same configuration, it ends in the same configuration, and its last choice gets the same answer."
       pub same-end : run step c m ≡ run step c l

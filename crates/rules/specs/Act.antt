@@ -1,8 +1,8 @@
 -- THE FIRST STOREY. What a machine does next, worked out from its number, its local part and the bits alone: no queue and no other machine is in
 -- reach. Document 01's rules, in document 002's order; the words in quotation marks are document 01's.
-use Prim.Native.Nat.{ℕ, suc, _+_}
+use Prim.Native.Nat.{ℕ, _+_}
 use mathlib.Core.Option.{Option, none, some}
-use mathlib.Core.Bool.{Bool, true, false, not, cond, _&&_, _||_}
+use mathlib.Core.Bool.{Bool, true, false, cond}
 use mathlib.Core.List.{List, [], _∷_, map}
 use lib.Dec.{ltb}
 use lib.ListN.{length, set}
@@ -24,6 +24,7 @@ use Rattle.machines.specs.Maps.{isAction, entryAt, exitOrSkip, callMap}
 use Rattle.rules.specs.declared.Rule.{Rule}
 use Rattle.rules.specs.declared.Rule.the-variants.{ASSIGN, ASSERT, SEQ, IF, WHILE, RAISE, LEAVE, RETURN, STEP, ACTION, CALL, POP1, POP2}
 
+-- What a machine does next: what only it and its choice decide.
 pub data Act : Type 0 where
   alone : Rule → Local → Act  -- a rule that touches nothing else, and the local part after it
   creates : (ℕ → Local) → Local → Act  -- the creator's local part after it, by the new number; the new machine's local part
@@ -54,6 +55,7 @@ abbrev pub fits : Value → Bool → Option Value
 fits v true = some v
 fits v false = none
 
+-- v, if it suits the type t
 abbrev pub fit : Ty → Value → Option Value
 fit t v = fits v (suits t v)
 
@@ -87,14 +89,17 @@ module _ (p : Program) (i : ℕ) (l : Local) (w : ℕ) where
   abbrev pub stepping : List Reply → List Frame → ℕ → Act
   stepping α γ n′ = alone STEP (remains p (Entry p n′ ∷ []) idle (stacked (record { state = n′; map = α } ∷ γ) l))
 
+  -- CALL
   abbrev pub calling : ℕ → List Reply → List Frame → ℕ → Act
   calling n α γ n′ = cond (ltb (length (l .stack)) STACK)
       (alone CALL (remains p (Entry p n′ ∷ []) idle (stacked (record { state = n′; map = callMap p n α } ∷ record { state = n; map = α } ∷ γ) l)))
       (refuses StackFull)
 
+  -- ACTION
   abbrev pub acting : ℕ → Act
   acting a = alone ACTION (remains p (Body p a ∷ []) idle l)
 
+  -- POP1
   abbrev pub popping : List Frame → ℕ → Value → Act
   popping γ e v = alone POP1 (remains p [] (raising e v) (stacked γ l))
 
@@ -104,10 +109,12 @@ module _ (p : Program) (i : ℕ) (l : Local) (w : ℕ) where
   pends n α γ (raising e v) = onOpt (Step p n e) (onOpt (Call p n e) (onOpt (ActionOf p n e) (onOpt (isAction (entryAt α e)) (popping γ e v) acting) acting) (calling n α γ)) (stepping α γ)
   pends n α γ returning = alone POP2 (remains p [] idle (stacked γ l))
 
+  -- the machine has a stack, with f on top
   abbrev pub inState : Frame → List Frame → List ℕ → Act
   inState f γ [] = pends (f .state) (f .map) γ (l .pending)
   inState f γ (s ∷ r) = does (f .state) (f .map) s r (stmtAt p s)
 
+  -- 13: "call stack empty"
   abbrev pub onStack : List Frame → Act
   onStack [] = refuses StackEmpty
   onStack (f ∷ γ) = inState f γ (l .row)

@@ -109,6 +109,7 @@ pub data Takes (p : Program) (c : Config) (i w : ℕ) : Rule → Config → Type
 abbrev pub NoBool : Value → Type 0
 NoBool v = (b : Bool) → v ≡ vbool b → ⊥
 
+-- no id
 abbrev pub NoId : Value → Type 0
 NoId v = (i : ℕ) → v ≡ idOf i → ⊥
 

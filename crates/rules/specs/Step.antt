@@ -1,14 +1,13 @@
 -- THE SECOND STOREY. What an act does to the rooms, the queues and the numbers; the step; the run.
-use Prim.Native.Nat.{ℕ, suc}
+use Prim.Native.Nat.{ℕ, suc, _-_}
 use mathlib.Core.Option.{Option, none, some, Option·map}
-use mathlib.Core.Bool.{Bool, false, cond, _&&_, _||_}
-use mathlib.Core.List.{List, [], _∷_, _++_, map}
-use lib.Dec.{eqb, ltb}
-use lib.ListN.{length, replicate}
+use mathlib.Core.Bool.{cond}
+use mathlib.Core.List.{List, [], _∷_, map}
+use lib.Dec.{ltb}
+use lib.ListN.{replicate}
 use Rattle.lists.specs.Lists.{onOpt}
-use Rattle.answers.specs.declared.Answer.{Answer}
 use Rattle.answers.specs.declared.Answer.the-variants.{NoRoom, QueueFull, SendToNotLive, UnableToStep, WrongType}
-use Rattle.programs.specs.Sizes.{SPENT}
+use Rattle.programs.specs.Sizes.{LIVE, SPENT}
 use Rattle.programs.specs.Program.{Program}
 use Rattle.runs.specs.Outcome.{Out, took, refused}
 use Rattle.machines.specs.Config.{Frame, raising, Pair, Local, Machine, Config, Choice}
@@ -20,6 +19,7 @@ use Rattle.rules.specs.declared.Rule.{Rule}
 use Rattle.rules.specs.declared.Rule.the-variants.{NEW, DELETE, SEND, DEQUEUE}
 use Rattle.rules.specs.Act.{Act, alone, creates, deletes, sends, dequeues, refuses, act}
 
+-- what a choice gives
 abbrev pub Outcome : Type 0
 Outcome = Out Config Rule
 
@@ -28,6 +28,7 @@ module _ (p : Program) where
   abbrev pub taken : Local → Frame → Pair × List Pair → Local × List Pair
   taken l f t = (remains p (exitOrSkip p (f .state) (f .map) (t .0 .event) ∷ []) (raising (t .0 .event) (t .0 .value)) (told (t .0 .event) (t .0 .value) l), t .1)
 
+  -- DEQUEUE in the state on top of the stack
   abbrev pub takes : Local → List Frame → List Pair → Option (Local × List Pair)
   takes l [] q = none
   takes l (f ∷ γ) q = Option·map (taken l f) (pull p (f .state) (f .map) q)
@@ -52,6 +53,6 @@ module _ (p : Program) where
   -- The start configuration: one machine of the start's kind, live number 1, in the first room.
   unfoldable pub startConfig : Config
   startConfig = record {
-    rooms = some (record { this = 1; loc = created p (p .start) (blank p (p .start)); queue = [] }) ∷ replicate 31 none;
+    rooms = some (record { this = 1; loc = created p (p .start) (blank p (p .start)); queue = [] }) ∷ replicate (LIVE - 1) none;
     next = 2;
   }

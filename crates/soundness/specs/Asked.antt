@@ -1,6 +1,6 @@
 -- Document 01, "Answers" 4 to 8, and of answer 2 "a void variable, a list not ascending": what is asked of each line of a program. A text is refused at
 -- the first line that does not meet it; a program that is lent is sound when every line meets it (20). Both read these definitions.
-use Prim.Native.Nat.{ℕ, suc, _-_}
+use Prim.Native.Nat.{ℕ, _-_}
 use mathlib.Core.Bool.{Bool, true, false, not, _&&_, _||_}
 use mathlib.Core.List.{List, [], _∷_, _++_, map}
 use lib.Dec.{eqb, ltb}
@@ -31,6 +31,7 @@ pub record Asked : Type 1 where
   pub act : ℕ → Move → Check
   pub start : ℕ → Check
 
+-- nothing is asked of these lines
 abbrev pub nothing : {A : Type 0} → ℕ → A → Check
 nothing n x = free
 
@@ -42,6 +43,7 @@ isVoid int = false
 isVoid event = false
 isVoid id = false
 
+-- "a list not ascending": strictly
 abbrev pub ascending : List ℕ → Bool
 ascending [] = true
 ascending (x ∷ []) = true
@@ -62,6 +64,7 @@ initOf (seq a b) = []
 initOf (if e a b) = []
 initOf (while e a) = []
 
+-- ANSWER 2, as far as 20 names it
 abbrev pub orderly : Asked
 orderly = record {
   variable = λ n v. isFalse (isVoid (v .type));
@@ -85,30 +88,39 @@ isId event = false
 isId id = true
 
 module _ (p : Program) where
+  -- expression e is there
   abbrev pub exprThere : ℕ → Check
   exprThere e = within (length (p .exprs)) e
 
+  -- "the undefined value in `arg`": 0, or an expression that is there
   abbrev pub argThere : ℕ → Check
   argThere e = atMost e (length (p .exprs))
 
+  -- "0 means skip": 0, or a statement that is there
   abbrev pub stmtThere : ℕ → Check
   stmtThere s = atMost s (length (p .stmts))
 
+  -- event e is there
   abbrev pub eventThere : ℕ → Check
   eventThere e = within (length (p .events)) e
 
+  -- machine kind k is there
   abbrev pub kindThere : ℕ → Check
   kindThere k = within (p .machines) k
 
+  -- variable x is there
   abbrev pub variableThere : ℕ → Check
   variableThere x = within (length (p .variables)) x
 
+  -- state n is there
   abbrev pub stateThere : ℕ → Check
   stateThere n = within (length (p .states)) n
 
+  -- action a is there
   abbrev pub actionThere : ℕ → Check
   actionThere a = within (length (p .actions)) a
 
+  -- what a leaf names is there: `var`
   abbrev pub leafRefers : Leaf → Check
   leafRefers bot = free
   leafRefers (intVal z) = free
@@ -119,11 +131,13 @@ module _ (p : Program) where
   leafRefers arg = free
   leafRefers star = free
 
+  -- what an expression names is there
   abbrev pub exprRefers : Expr → Check
   exprRefers (leaf l) = leafRefers l
   exprRefers (unary o a) = exprThere a
   exprRefers (binary o a b) = exprThere a also exprThere b
 
+  -- what a statement names is there
   abbrev pub stmtRefers : Stmt → Check
   stmtRefers skip = free
   stmtRefers (assign x e) = variableThere x also exprThere e
@@ -146,6 +160,7 @@ module _ (p : Program) where
   abbrev pub actRefers : Move → Check
   actRefers t = stateThere (t .from) also eventThere (t .on) also actionThere (t .to) also equals (actionAt p (t .to) .of) (stateAt p (t .from) .of)
 
+  -- ANSWER 4: everything that a line names is there, and a transition's and an act's of the state's kind
   abbrev pub refers : Asked
   refers = record {
     variable = λ n v. kindThere (v .of);
@@ -165,6 +180,7 @@ module _ (p : Program) where
   again earlier [] = false
   again earlier (x ∷ l) = (not (eqb x 0) && any (eqb x) earlier) || again (x ∷ earlier) l
 
+  -- what a state names: `entry`, `exit`
   abbrev pub bodies : State → List ℕ
   bodies q = q .entry ∷ q .exit ∷ []
 
@@ -172,6 +188,7 @@ module _ (p : Program) where
   abbrev pub exprNames : ℕ → List ℕ
   exprNames n = flat operands (take (n - 1) (p .exprs))
 
+  -- and those that the statements in front of number n name
   abbrev pub stmtNames : ℕ → List ℕ
   stmtNames n = flat operands (p .exprs) ++ flat exprsOf (take (n - 1) (p .stmts))
 
@@ -179,12 +196,15 @@ module _ (p : Program) where
   abbrev pub partNames : ℕ → List ℕ
   partNames n = flat parts (take (n - 1) (p .stmts))
 
+  -- those that statements and the actions in front of number n name
   abbrev pub actionNames : ℕ → List ℕ
   actionNames n = flat parts (p .stmts) ++ map (λ a. a .body) (take (n - 1) (p .actions))
 
+  -- those that statements, actions and the states in front of number n name
   abbrev pub stateNames : ℕ → List ℕ
   stateNames n = flat parts (p .stmts) ++ (map (λ a. a .body) (p .actions) ++ flat bodies (take (n - 1) (p .states)))
 
+  -- ANSWER 5: "has a lower number than its whole, and each is named at most once in the text"
   abbrev pub lower : Asked
   lower = record {
     variable = nothing;
@@ -204,6 +224,7 @@ module _ (p : Program) where
   abbrev pub ofServed : (ℕ → Bool) → ℕ → Check
   ofServed served x = forAll (p .machines) (λ k. given (served k) (equals (variableAt p x .of) k))
 
+  -- a leaf of expression n names no foreign variable
   abbrev pub leafOwn : ℕ → Leaf → Check
   leafOwn n bot = free
   leafOwn n (intVal z) = free
@@ -214,11 +235,13 @@ module _ (p : Program) where
   leafOwn n arg = free
   leafOwn n star = free
 
+  -- expression n itself names no foreign variable (its parts answer for themselves)
   abbrev pub exprOwn : ℕ → Expr → Check
   exprOwn n (leaf l) = leafOwn n l
   exprOwn n (unary o a) = free
   exprOwn n (binary o a b) = free
 
+  -- statement n names no foreign variable, its `init` only the created kind's
   abbrev pub stmtOwn : ℕ → Stmt → Check
   stmtOwn n skip = free
   stmtOwn n (assign x e) = ofServed (λ k. serves p k n) x
@@ -233,6 +256,7 @@ module _ (p : Program) where
   stmtOwn n (if e a b) = free
   stmtOwn n (while e a) = free
 
+  -- ANSWER 4 again: no foreign variable
   abbrev pub own : Asked
   own = record {
     variable = nothing;
@@ -250,6 +274,7 @@ module _ (p : Program) where
   abbrev pub alike : Move → Move → Bool
   alike t u = eqb (t .from) (u .from) && eqb (t .on) (u .on)
 
+  -- ANSWER 6: no earlier line for the state and event; a step and a call are both transitions
   abbrev pub single : Asked
   single = record {
     variable = nothing;
@@ -278,9 +303,11 @@ module _ (p : Program) where
   isQuiet (if e a b) = true
   isQuiet (while e a) = true
 
+  -- nothing inside statement s is one
   unfoldable pub quietly : ℕ → Bool
   quietly s = downward true (λ f n. isQuiet (stmtAt p n) && all f (parts (stmtAt p n))) s
 
+  -- ANSWER 7: every exit is quiet
   abbrev pub quiet : Asked
   quiet = record {
     variable = nothing;

@@ -1,10 +1,7 @@
 -- What the steps rest on of a sound program: that a configuration stays accepted needs no more than this.
-use Prim.Native.Nat.{ℕ, suc, _+_, _≤_, _<_}
+use Prim.Native.Nat.{ℕ, _≤_, _<_}
 use mathlib.Core.Path.{_≡_}
-use mathlib.Core.Logic.{_⊎_}
-use mathlib.Core.Option.{Option, none, some}
-use mathlib.Core.Bool.{Bool, true, false, _&&_, _||_}
-use mathlib.Core.List.{List, [], _∷_}
+use mathlib.Core.Bool.{true}
 use lib.Dec.{eqb}
 use lib.ListN.{length}
 use Rattle.lists.specs.Lists.{All, any, There}
@@ -14,6 +11,7 @@ use Rattle.programs.specs.Program.{Program, Stmt, skip, assign, new, delete, se
 use Rattle.programs.specs.Statements.{parts, height, serves}
 
 module _ (p : Program) (k : ℕ) where
+  -- variable x is there, and of kind k
   abbrev pub VariableOf : ℕ → Type 0
   VariableOf x = There (length (p .variables)) x × (variableAt p x .of ≡ k)
 
@@ -32,11 +30,13 @@ Refers p k (seq a b) = Unit {0}
 Refers p k (if e a b) = Unit {0}
 Refers p k (while e a) = Unit {0}
 
+-- a state of a kind that is there, whose statements are there
 pub record StateSound (p : Program) (n : ℕ) : Type 0 where
   pub kind-there : There (p .machines) (stateAt p n .of)
   pub entry-there : stateAt p n .entry ≤ length (p .stmts)
   pub exit-there : stateAt p n .exit ≤ length (p .stmts)
 
+-- every field with the answer that it comes from
 pub record Founded (p : Program) : Type 0 where
   pub lower : (s : ℕ) → All (λ t. t < s) (parts (stmtAt p s))  -- 5
   pub parts-there : (s : ℕ) → All (λ t. t ≤ length (p .stmts)) (parts (stmtAt p s))  -- 4

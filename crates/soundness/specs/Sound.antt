@@ -1,7 +1,6 @@
 -- A sound program: one that no text is refused for by 3 to 9, without a void variable and with its lists ascending. Answer 20 is given for any other.
-use Prim.Native.Nat.{ℕ, suc, _+_}
-use mathlib.Core.Path.{_≡_, refl}
-use mathlib.Core.Bool.{Bool, true, false, cond, _&&_}
+use Prim.Native.Nat.{ℕ, suc}
+use mathlib.Core.Bool.{Bool, cond, _&&_}
 use mathlib.Core.List.{List, [], _∷_, _++_}
 use lib.Dec.{eqb}
 use lib.ListN.{length, replicate}
@@ -22,6 +21,7 @@ abbrev pub numbered : {A : Type 0} → (ℕ → A → Check) → ℕ → List A 
 numbered f n [] = []
 numbered f n (x ∷ l) = f n x ∷ numbered f (suc n) l
 
+-- all lines, in the order of the text
 abbrev pub lines : Program → Asked → List Check
 lines p t =
     replicate (length (p .events)) free ++ (replicate (p .machines) free ++ (numbered (t .variable) 1 (p .variables) ++ (numbered (t .expr) 1 (p .exprs)
@@ -38,6 +38,7 @@ abbrev pub meet : List Check → Check
 meet [] = free
 meet (c ∷ l) = c also meet l
 
+-- every line of the program meets what t asks
 abbrev pub meets : Program → Asked → Check
 meets p t = meet (lines p t)
 
@@ -53,11 +54,13 @@ module _ (p : Program) where
   leafRanged arg = free
   leafRanged star = free
 
+  -- of an expression
   abbrev pub exprRanged : Expr → Check
   exprRanged (leaf l) = leafRanged l
   exprRanged (unary o a) = free
   exprRanged (binary o a b) = free
 
+  -- ANSWER 3, as far as 20 names it: the sizes, and every `val` in range
   abbrev pub sized : Check
   sized = atMost (p .machines) KINDS also atMost (length (p .events)) EVENTS also forAll (p .machines) (λ k. atMost (length (variablesOf p k)) VARIABLES)
       also atMost (length (p .exprs)) EXPRS also atMost (length (p .stmts)) STMTS also atMost (length (p .actions)) ACTIONS also atMost (length (p .states)) STATES

@@ -42,6 +42,7 @@ pub data Shown : Type 0 where
   answer : Answer → Shown
   order : List Entry → Shown
 
+-- a row: what the definitions give, and what the table says
 pub record Row : Type 0 where
   pub given : Shown
   pub wanted : Shown
@@ -62,6 +63,7 @@ program ds ts ss = record {
   start = 1;
 }
 
+-- the configuration of a row
 abbrev config : List Reply → List ℕ → Pending → List Pair → Config
 config α r q qs = record {
   rooms = some (record {
@@ -80,18 +82,23 @@ config α r q qs = record {
   next = 2;
 }
 
+-- what the step of machine 1 shows
 abbrev shown : Program → Config → Shown
 shown p c = onOut (step p c (record { machine = 1; bits = 0 })) (λ R d. onOpt (find 1 (d .rooms)) (answer Done) (λ m. done R (m .loc .msg) (m .queue))) answer
 
+-- given, wanted
 abbrev row : Shown → Shown → Row
 row g w = record { given = g; wanted = w }
 
+-- a pair
 abbrev pair : ℕ → Value → Pair
 pair e v = record { event = e; value = v }
 
+-- λ e. ⊥
 abbrev nowhere : List Reply
 nowhere = nothing ∷ nothing ∷ []
 
+-- a map that defers 2
 abbrev deferring2 : List Reply
 deferring2 = nothing ∷ deferred ∷ []
 
@@ -103,12 +110,15 @@ sixteen = map (λ n. pair 1 (vint (pos n))) (0 ∷ 1 ∷ 2 ∷ 3 ∷ 4 ∷ 5 ∷
 abbrev p : ℕ → ℕ → Entry
 p k n = (k, n, false)
 
+-- a meeting of machine k, in place n
 abbrev M : ℕ → ℕ → Entry
 M k n = (k, n, true)
 
+-- the queue 2,1
 abbrev waiting : List Pair
 waiting = pair 2 undefined ∷ pair 1 undefined ∷ []
 
+-- TABLE K
 abbrev pub tableK : List Row
 tableK =
     -- K1 2147483647+1 undefined
@@ -138,10 +148,12 @@ tableK =
     (order (p 2 2 ∷ M 2 4 ∷ p 1 1 ∷ p 1 3 ∷ M 1 5 ∷ p 2 6 ∷ p 1 7 ∷ []))
     ∷ []
 
+-- every row gives what it wants
 abbrev pub Right : List Row → Type 0
 Right [] = Unit {0}
 Right (r ∷ rs) = (r .given ≡ r .wanted) × Right rs
 
+-- the definitions give every row of the table
 pub table-k : Right tableK
 unfolding below downward tree stars value onto act step weave tails
 table-k = (refl, (refl, (refl, (refl, (refl, (refl, (refl, (refl, (refl, (refl, (refl, (refl, tt))))))))))))

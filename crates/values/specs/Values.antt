@@ -23,6 +23,7 @@ abbrev pub inRange : ℤ → Bool
 inRange (pos n) = ltb n 2147483648
 inRange (negsuc n) = ltb n 2147483648
 
+-- an int, or "a result out of range gives undefined"
 abbrev pub checked : ℤ → Value
 checked z = cond (inRange z) (vint z) undefined
 
@@ -34,6 +35,7 @@ withInt (vint z) k = k z
 withInt (vevent e) k = undefined
 withInt (vid i) k = undefined
 
+-- k of the bool that a value is
 abbrev pub withBool : Value → (Bool → Value) → Value
 withBool undefined k = undefined
 withBool (vbool b) k = k b
@@ -46,6 +48,7 @@ abbrev pub apply1 : Unary → Value → Value
 apply1 not′ x = withBool x (λ a. vbool (not a))
 apply1 neg x = withInt x (λ a. checked (negℤ a))
 
+-- `add`, `sub`, `and`, `or`
 abbrev pub apply2 : Binary → Value → Value → Value
 apply2 add x y = withInt x (λ a. withInt y (λ b. checked (a +ℤ b)))
 apply2 sub x y = withInt x (λ a. withInt y (λ b. checked (a -ℤ b)))
@@ -108,12 +111,14 @@ abbrev pub eqBool : Bool → Bool → Bool
 eqBool true b = b
 eqBool false b = not b
 
+-- equal ints
 abbrev pub eqInt : ℤ → ℤ → Bool
 eqInt (pos m) (pos n) = eqb m n
 eqInt (pos m) (negsuc n) = false
 eqInt (negsuc m) (pos n) = false
 eqInt (negsuc m) (negsuc n) = eqb m n
 
+-- equal values
 abbrev pub eqValue : Value → Value → Bool
 eqValue undefined undefined = true
 eqValue undefined (vbool b) = false
