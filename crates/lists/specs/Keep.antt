@@ -1,8 +1,8 @@
 -- Laws of the elements that pass a test, and of a fact of every element.
-use Prim.Native.Nat.{_≤_}
+use Prim.Native.Nat.{_+_, _≤_}
 use mathlib.Core.Path.{_≡_, refl}
 use mathlib.Core.Bool.{Bool, true, false}
-use mathlib.Core.List.{List, [], _∷_, _++_, map}
+use mathlib.Core.List.{List, [], _∷_, _++_, map, reverse, reverseAux}
 use native.Mathlib.Omega.{arith}
 use lib.ListN.{length}
 use Rattle.lists.specs.Lists.{push, keep, All}
@@ -58,3 +58,28 @@ keep-length p (x ∷ l) = go (p x) (keep-length p l)
     go : (b : Bool) → length (keep p l) ≤ length l → length (push b x (keep p l)) ≤ length (x ∷ l)
     go true h = omega arith
     go false h = omega arith
+
+-- THE OTHER WAY ROUND
+module _ {A : Type 0} where
+  -- A fact of every element of two lists is one of every element of the first turned round before the second;
+  All-reverseAux : (P : A → Type 0) (l m : List A) → All P l → All P m → All P (reverseAux l m)
+  All-reverseAux P [] m h k = k
+  All-reverseAux P (x ∷ l) m h k = All-reverseAux P l (x ∷ m) (h .1) (h .0, k)
+
+  -- so it is one of a list turned round.
+  pub All-reverse : (P : A → Type 0) (l : List A) → All P l → All P (reverse l)
+  All-reverse P l h = All-reverseAux P l [] h tt
+
+  -- An element counts the same wherever it is pushed;
+  length-push : (b : Bool) (x : A) (l : List A) → length (push b x l) ≡ length (push b x []) + length l
+  length-push true x l = omega arith
+  length-push false x l = omega arith
+
+  -- so as many elements of two lists pass when the first is turned round before the second,
+  kept-reverseAux : (p : A → Bool) (l m : List A) → length (keep p (reverseAux l m)) ≡ length (keep p l) + length (keep p m)
+  kept-reverseAux p [] m = omega arith
+  kept-reverseAux p (x ∷ l) m = omega (arith, kept-reverseAux p l (x ∷ m), length-push (p x) x (keep p l), length-push (p x) x (keep p m))
+
+  -- and as many of a list turned round.
+  pub kept-reverse : (p : A → Bool) (l : List A) → length (keep p (reverse l)) ≡ length (keep p l)
+  kept-reverse p l = omega (arith, kept-reverseAux p l [])

@@ -5,7 +5,7 @@ use mathlib.Core.Logic.{_≢_}
 use mathlib.Core.Option.{Option, none, some, Option·map, Option·none-ne-some}
 use mathlib.Core.Bool.{Bool, true, false, cond}
 use mathlib.Core.List.{List, [], _∷_, map}
-use borrow.Author.Tests.{eqb-true, ne-eqb}
+use borrow.Author.Tests.{eqb-true, eq-eqb, ne-eqb}
 use lib.Dec.{eqb}
 use Rattle.machines.specs.Config.{Pair, Local, Machine}
 use Rattle.machines.specs.Rooms.{Rooms, isAt, find, setLocal, setQueue, on, each, gone, fill}
@@ -14,20 +14,20 @@ use Rattle.machines.specs.Rooms.{Rooms, isAt, find, setLocal, setQueue, 
 abbrev pub Keeps : (Machine → Machine) → Type 0
 Keeps g = (m : Machine) → g m .this ≡ m .this
 
--- other local parts and other queues are such
-pub keeps-local : (k : ℕ) (l : Local) → Keeps (on k (setLocal l))
-keeps-local k l m = go (isAt k m)
+-- so is the same change of machine j alone
+pub keeps-on : (j : ℕ) (g : Machine → Machine) → Keeps g → Keeps (on j g)
+keeps-on j g k m = go (isAt j m)
   where
-    go : (b : Bool) → (cond b (setLocal l m) m) .this ≡ m .this
-    go true = refl
+    go : (b : Bool) → (cond b (g m) m) .this ≡ m .this
+    go true = k m
     go false = refl
 
-pub keeps-queue : (k : ℕ) (q : List Pair) → Keeps (on k (setQueue q))
-keeps-queue k q m = go (isAt k m)
-  where
-    go : (b : Bool) → (cond b (setQueue q m) m) .this ≡ m .this
-    go true = refl
-    go false = refl
+-- other local parts and other queues are such
+pub keeps-local : (i : ℕ) (l : Local) → Keeps (on i (setLocal l))
+keeps-local i l = keeps-on i (setLocal l) (λ m. refl)
+
+pub keeps-queue : (i : ℕ) (q : List Pair) → Keeps (on i (setQueue q))
+keeps-queue i q = keeps-on i (setQueue q) (λ m. refl)
 
 -- a change of the local part leaves the queue, and a change of the queue the local part
 pub on-loc-queue : (k : ℕ) (l : Local) (m : Machine) → (on k (setLocal l) m) .queue ≡ m .queue
@@ -111,25 +111,39 @@ find-num k (some n ∷ rs) m e = go (isAt k n) refl (find-num k rs m) e
     go true f h e = let p : n ≡ m = cc in rw p at (eqb-true (n .this) k f)
     go false f h e = h e
 
--- another's local part changes nothing of what is found
-pub find-other : (i : ℕ) (l : Local) (k : ℕ) (rs : Rooms) → k ≢ i → find k (each (on i (setLocal l)) rs) ≡ find k rs
-find-other i l k rs d = each-find (on i (setLocal l)) (keeps-local i l) k rs ∙ go (find k rs) refl
+-- a change of machine i itself: it is found changed
+pub find-own : (i : ℕ) (g : Machine → Machine) → Keeps g → (m : Machine) (rs : Rooms) → find i rs ≡ some m → find i (each (on i g) rs) ≡ some (g m)
+find-own i g k m rs h = each-find (on i g) (keeps-on i g k) i rs ∙ rw (h, eq-eqb (m .this) i (find-num i rs m h))
+
+-- a change of another machine changes nothing of what is found
+pub find-other : (i j : ℕ) (g : Machine → Machine) → Keeps g → (rs : Rooms) → j ≢ i → find i (each (on j g) rs) ≡ find i rs
+find-other i j g k rs d = each-find (on j g) (keeps-on j g k) i rs ∙ go (find i rs) refl
   where
-    go : (o : Option Machine) → find k rs ≡ o → Option·map (on i (setLocal l)) o ≡ o
+    go : (o : Option Machine) → find i rs ≡ o → Option·map (on j g) o ≡ o
     go none e = refl
-    go (some m) e = ap some (on-other i (setLocal l) m (λ p. d (sym (find-num k rs m e) ∙ p)))
+    go (some m) e = ap some (on-other j g m (λ p. d (sym p ∙ find-num i rs m e)))
 
 -- nor does another's deletion
-pub find-gone : (i k : ℕ) (rs : Rooms) → k ≢ i → find i (map (gone k) rs) ≡ find i rs
-find-gone i k [] d = refl
-find-gone i k (none ∷ rs) d = find-gone i k rs d
-find-gone i k (some n ∷ rs) d = go (isAt k n) refl (find-gone i k rs d)
+pub find-gone-other : (i k : ℕ) (rs : Rooms) → k ≢ i → find i (map (gone k) rs) ≡ find i rs
+find-gone-other i k [] d = refl
+find-gone-other i k (none ∷ rs) d = find-gone-other i k rs d
+find-gone-other i k (some n ∷ rs) d = go (isAt k n) refl (find-gone-other i k rs d)
   where
     go : (b : Bool) → isAt k n ≡ b → find i (map (gone k) rs) ≡ find i rs → find i (cond b none (some n) ∷ map (gone k) rs) ≡ cond (isAt i n) (some n) (find i rs)
     go true p h = rw (ne-eqb (n .this) i (λ q. d (sym (eqb-true (n .this) k p) ∙ q))) h
     go false p h = rw h
 
--- nor does a creation under another number
+-- a machine that is deleted is not found
+pub find-gone : (i : ℕ) (rs : Rooms) → find i (map (gone i) rs) ≡ none
+find-gone i [] = refl
+find-gone i (none ∷ rs) = find-gone i rs
+find-gone i (some m ∷ rs) = go (isAt i m) refl (find-gone i rs)
+  where
+    go : (b : Bool) → isAt i m ≡ b → find i (map (gone i) rs) ≡ none → find i (cond b none (some m) ∷ map (gone i) rs) ≡ none
+    go true b e = e
+    go false b e = rw b e
+
+-- a creation under another number changes nothing of what is found
 pub find-fill : (i : ℕ) (n : Machine) (rs ts : Rooms) → n .this ≢ i → fill n rs ≡ some ts → find i ts ≡ find i rs
 find-fill i n [] ts d p = absurd (Option·none-ne-some _ p)
 find-fill i n (none ∷ rs) ts d p = let q : some n ∷ rs ≡ ts = cc in rw (← q, ne-eqb (n .this) i d)

@@ -14,7 +14,7 @@ use Rattle.programs.specs.Sizes.{SPENT}
 use Rattle.programs.specs.Program.{Program}
 use Rattle.machines.specs.Config.{Pair, Local, Machine, Config, Choice}
 use Rattle.machines.specs.Rooms.{Rooms, find, setLocal, setQueue, on, each, gone, fill, born}
-use Rattle.machines.specs.RoomLaws.{keeps-local, keeps-queue, on-loc-queue, on-queue-loc, on-other, commute-queue, commute-loc, each-each, each-find, each-gone, each-fill, find-num, find-other, find-gone, find-fill}
+use Rattle.machines.specs.RoomLaws.{keeps-local, keeps-queue, on-loc-queue, on-queue-loc, on-other, commute-queue, commute-loc, each-each, each-find, each-gone, each-fill, find-num, find-other, find-gone-other, find-fill}
 use Rattle.machines.specs.Queue.{put}
 use Rattle.runs.specs.Outcome.{Out, took, refused}
 use Rattle.rules.specs.declared.Rule.{Rule}
@@ -57,7 +57,7 @@ stays-loc : (i : ℕ) (l : Local) (k : ℕ) (n : Local) (rs : Rooms) → k ≢ i
 stays-loc i l k n rs d (m, f, e) = (m, each-find (on k (setLocal n)) (keeps-local k n) i rs ∙ rw (f, on-other k (setLocal n) m (λ p. d (sym p ∙ find-num i rs m f))), e)
 
 stays-gone : (i : ℕ) (l : Local) (k : ℕ) (rs : Rooms) → k ≢ i → Stays i l rs → Stays i l (map (gone k) rs)
-stays-gone i l k rs d (m, f, e) = (m, find-gone i k rs d ∙ f, e)
+stays-gone i l k rs d (m, f, e) = (m, find-gone-other i k rs d ∙ f, e)
 
 stays-fill : (i : ℕ) (l : Local) (n : Machine) (rs ts : Rooms) → n .this ≢ i → fill n rs ≡ some ts → Stays i l rs → Stays i l ts
 stays-fill i l n rs ts d p (m, f, e) = (m, find-fill i n rs ts d p ∙ f, e)
@@ -201,7 +201,7 @@ module _ (p : Program) where
       second : (m : Machine) (n : Rule) (l : Local) → find i (c .rooms) ≡ some m → act p (x .machine) (m .loc) (x .bits) ≡ alone n l → r ≡ n → c₁ ≡ local i l c →
           (k : Machine) × (find (y .machine) (c₁ .rooms) ≡ some k) × (does c₁ (y .machine) k (act p (y .machine) (k .loc) (y .bits)) ≡ took s c₂) →
           (c₃ : Config) × (Step c y ≡ took s c₃) × (Step c₃ x ≡ took r c₂)
-      second m n l f a q u (k, fk, o) = third m n l f a q k (sym (find-other i l (y .machine) (c .rooms) (λ z. d (sym z))) ∙ rw u at fk)
+      second m n l f a q u (k, fk, o) = third m n l f a q k (sym (find-other (y .machine) i (setLocal l) (λ m. refl) (c .rooms) d) ∙ rw u at fk)
           (unmap (local i l) _ s c₂ (sym (equiv i l c (y .machine) k (act p (y .machine) (k .loc) (y .bits)) (λ z. d (sym z)) (λ z. fresh m f z)) ∙ rw u at o))
 
       first : (m : Machine) × (find i (c .rooms) ≡ some m) × (does c i m (act p (x .machine) (m .loc) (x .bits)) ≡ took r c₁) →

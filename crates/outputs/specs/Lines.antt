@@ -24,10 +24,6 @@ numeral n = digits (suc n) n
 abbrev pub field : String → ℕ → List ℕ
 field key n = bytes key ++ numeral n
 
--- "Lines end with LF": 10
-abbrev pub LF : List ℕ
-LF = 10 ∷ []
-
 -- `rule=ASSIGN`
 abbrev pub ruleName : Rule → String
 ruleName ASSIGN = "ASSIGN"

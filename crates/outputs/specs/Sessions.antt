@@ -4,7 +4,6 @@ use Prim.Native.String.{String}
 use mathlib.Core.Path.{_≡_, refl}
 use mathlib.Core.List.{List, [], _∷_, _++_}
 use lib.ListN.{replicate}
-use Rattle.lists.specs.Lists.{flat}
 use Rattle.lists.specs.Down.{below, downward}
 use Rattle.programs.specs.Trees.{tree, stars, treeHeight, exprInside}
 use Rattle.programs.specs.Statements.{height, inside, serves, exprServes}
@@ -15,15 +14,11 @@ use Rattle.rules.specs.Act.{act}
 use Rattle.rules.specs.Step.{step, startConfig}
 use Rattle.regrouping.specs.Regrouped.{weave, tails}
 use Rattle.regrouping.specs.Demand.{regroup}
-use Rattle.texts.specs.Bytes.{bytes}
+use Rattle.texts.specs.Bytes.{text}
 use Rattle.texts.specs.Forms.{said}
 use Rattle.texts.specs.Answered.{answered}
-use Rattle.outputs.specs.Lines.{numeral, LF}
+use Rattle.outputs.specs.Lines.{numeral}
 use Rattle.outputs.specs.Programs.{runProgram, regroupProgram}
-
--- a text of these lines
-abbrev text : List String → List ℕ
-text = flat (λ l. bytes l ++ LF)
 
 -- the lines of the program, but for its step line
 abbrev program : List String

@@ -9,7 +9,6 @@ use native.Mathlib.Omega.{arith}
 use borrow.Author.Tests.{leb-true, leb-false, le-leb}
 use lib.Dec.{leb}
 use lib.ListN.{length}
-use Rattle.lists.specs.Lists.{onOpt}
 use Rattle.lists.specs.Tells.{Tells, both}
 use Rattle.lists.specs.Ends.{butLast}
 use Rattle.answers.specs.declared.Answer.{Answer}
@@ -29,7 +28,7 @@ use Rattle.kept.specs.Kept.{find-ok}
 use Rattle.regrouping.specs.Demand.{Regrouping}
 use Rattle.meetings.specs.Meetings.{meets, own, regroup}
 use Rattle.meetings.specs.Good.{regroup-good, no-list, a-list}
-use Rattle.public.specs.Public.{fit, publicStep, ran, stopped, publicRun, wroteNothing, publicRegroup}
+use Rattle.public.specs.Public.{fit, publicStep, ran, stopped, publicRun, wroteNothing, listed, publicRegroup}
 
 module _ (p : Program) (c : Config) where
   abbrev pub Fit : Type 0
@@ -113,32 +112,32 @@ module _ (p : Program) (c : Config) where
         is-22 : Fit → length l ≤ CHOICES → length l ≤ room → (Stepped (step p) c (butLast l) → ⊥) → Answers TookNoStep
         is-0 : Fit → length l ≤ CHOICES → length l ≤ room → Stepped (step p) c (butLast l) → Answers Done
 
-      listed : Fit → length l ≤ CHOICES → length l ≤ room → (o : Option (List Choice)) → regroup p c l ≡ o →
-          Answers (onOpt o (wroteNothing TookNoStep) (λ m. record { answer = Done; list = m }) .answer)
-      listed h k r none e = is-22 h k r (no-list p c l e)
-      listed h k r (some m) e = is-0 h k r (a-list p c l m e)
+      by-list : Fit → length l ≤ CHOICES → length l ≤ room → (o : Option (List Choice)) → regroup p c l ≡ o →
+          Answers (listed o .answer)
+      by-list h k r none e = is-22 h k r (no-list p c l e)
+      by-list h k r (some m) e = is-0 h k r (a-list p c l m e)
 
       given : Answers (publicRegroup p c l room .answer)
       unfolding publicRegroup
       given = fitted (fit p c) refl
         where
           roomed : Fit → length l ≤ CHOICES → (b : Bool) → leb (length l) room ≡ b →
-              Answers (cond b (onOpt (regroup p c l) (wroteNothing TookNoStep) (λ m. record { answer = Done; list = m })) (wroteNothing BufferTooShort) .answer)
-          roomed h k true e = listed h k (leb-true (length l) room e) (regroup p c l) refl
+              Answers (cond b (listed (regroup p c l)) (wroteNothing BufferTooShort) .answer)
+          roomed h k true e = by-list h k (leb-true (length l) room e) (regroup p c l) refl
           roomed h k false e = is-21 h k (let z = leb-false (length l) room e in omega arith)
 
           sized : Fit → (b : Bool) → leb (length l) CHOICES ≡ b →
-              Answers (cond b (cond (leb (length l) room) (onOpt (regroup p c l) (wroteNothing TookNoStep) (λ m. record { answer = Done; list = m })) (wroteNothing BufferTooShort)) (wroteNothing OutOfRange) .answer)
+              Answers (cond b (cond (leb (length l) room) (listed (regroup p c l)) (wroteNothing BufferTooShort)) (wroteNothing OutOfRange) .answer)
           sized h true e = roomed h (leb-true (length l) CHOICES e) (leb (length l) room) refl
           sized h false e = is-3 h (let z = leb-false (length l) CHOICES e in omega arith)
 
           fitted : (b : Bool) → fit p c ≡ b →
-              Answers (cond b (cond (leb (length l) CHOICES) (cond (leb (length l) room) (onOpt (regroup p c l) (wroteNothing TookNoStep) (λ m. record { answer = Done; list = m })) (wroteNothing BufferTooShort)) (wroteNothing OutOfRange)) (wroteNothing NotAccepted) .answer)
+              Answers (cond b (cond (leb (length l) CHOICES) (cond (leb (length l) room) (listed (regroup p c l)) (wroteNothing BufferTooShort)) (wroteNothing OutOfRange)) (wroteNothing NotAccepted) .answer)
           fitted true e = sized (fit-is .holds e) (leb (length l) CHOICES) refl
           fitted false e = is-20 (unfit e)
 
       none-listed : (Stepped (step p) c (butLast l) → ⊥) → (o : Option (List Choice)) → regroup p c l ≡ o →
-          onOpt o (wroteNothing TookNoStep) (λ m. record { answer = Done; list = m }) .answer ≡ TookNoStep
+          listed o .answer ≡ TookNoStep
       none-listed n none e = refl
       none-listed n (some m) e = absurd (n (a-list p c l m e))
 
@@ -154,8 +153,13 @@ module _ (p : Program) (c : Config) where
       pub regroup-answer : {a : Answer} → (publicRegroup p c l room .answer ≡ a) ↔ Answers a
       regroup-answer {a} = ((λ e. subst Answers e given), answers)
 
+      -- where program, configuration, list and buffer are as they should be, what is written is the regrouped list
+      pub regroup-fit : Fit → length l ≤ CHOICES → length l ≤ room → publicRegroup p c l room ≡ listed (regroup p c l)
+      unfolding publicRegroup
+      regroup-fit h k r = rw (fit-true h, within k, le-leb (length l) room r)
+
       -- DEMAND 3: on answer 0 what is written has all five facts
       pub regroup-wrote : Fit → length l ≤ CHOICES → length l ≤ room → Stepped (step p) c (butLast l) →
           (m : List Choice) × (publicRegroup p c l room ≡ record { answer = Done; list = m }) × Regrouping (step p) own meets c l m
       unfolding publicRegroup
-      regroup-wrote h k r n = let t = regroup-good p c l (h .0) (h .1) n in (t .0, rw (fit-true h, within k, le-leb (length l) room r, t .1), t .2)
+      regroup-wrote h k r n = let t = regroup-good p c l (h .0) (h .1) n in (t .0, regroup-fit h k r ∙ ap listed (t .1), t .2)

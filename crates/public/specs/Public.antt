@@ -2,11 +2,11 @@
 -- choice, place 0"; "A lent list over 4,096 choices is answer 3, after 20, for run and regroup. Regroup gives 20, 3, 21, 22 in that order and on refusal
 -- writes nothing; on 0 it writes only the list's length. It never changes the configuration."
 use Prim.Native.Nat.{ℕ}
+use mathlib.Core.Option.{Option, none, some}
 use mathlib.Core.Bool.{Bool, cond, _&&_}
 use mathlib.Core.List.{List, []}
 use lib.Dec.{leb}
 use lib.ListN.{length}
-use Rattle.lists.specs.Lists.{onOpt}
 use Rattle.answers.specs.declared.Answer.{Answer}
 use Rattle.answers.specs.declared.Answer.the-variants.{Done, OutOfRange, NotAccepted, BufferTooShort, TookNoStep}
 use Rattle.programs.specs.Sizes.{CHOICES}
@@ -55,10 +55,15 @@ pub record Wrote : Type 0 where
 abbrev pub wroteNothing : Answer → Wrote
 wroteNothing a = record { answer = a; list = [] }
 
+-- what is written of the regrouped list: 22 where there is none
+abbrev pub listed : Option (List Choice) → Wrote
+listed none = wroteNothing TookNoStep
+listed (some m) = record { answer = Done; list = m }
+
 -- `room` is the length of the output buffer
 unfoldable pub publicRegroup : Program → Config → List Choice → ℕ → Wrote
 publicRegroup p c l room = cond (fit p c)
     (cond (leb (length l) CHOICES)
-    (cond (leb (length l) room) (onOpt (regroup p c l) (wroteNothing TookNoStep) (λ m. record { answer = Done; list = m })) (wroteNothing BufferTooShort))
+    (cond (leb (length l) room) (listed (regroup p c l)) (wroteNothing BufferTooShort))
     (wroteNothing OutOfRange))
     (wroteNothing NotAccepted)

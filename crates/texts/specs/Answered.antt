@@ -1,7 +1,7 @@
 -- Document 01, "Answers": "1 comes first, then 2 and 3 at the first faulty line (2 before 3), then 4 to 9, lower numbers first, at the first faulty
 -- line (a foreign variable after 5; doublings at the later line, 7 at the state's). A refusal of the text gives its line (0 for answers 1 and 9 ...)".
 use Prim.Native.Nat.{ℕ}
-use mathlib.Core.Bool.{Bool, true, false, cond}
+use mathlib.Core.Bool.{cond}
 use mathlib.Core.List.{List, [], _∷_}
 use lib.Dec.{eqb, ltb}
 use lib.ListN.{length}
@@ -12,7 +12,7 @@ use Rattle.programs.specs.Program.{Program}
 use Rattle.machines.specs.Config.{Choice}
 use Rattle.soundness.specs.Asked.{Asked, refers, lower, own, single, quiet, low}
 use Rattle.soundness.specs.Sound.{lines, firstFault, stateful}
-use Rattle.texts.specs.Bytes.{split}
+use Rattle.texts.specs.Bytes.{LF, split}
 use Rattle.texts.specs.Reading.{Result, loaded, refused, nothing, reading}
 
 -- what is asked of every line, with the answer where one does not meet it, in the order in which they decide
@@ -30,8 +30,8 @@ abbrev pub judge : Result → Result
 judge (refused a k) = refused a k
 judge (loaded p c) = judged p c (passes p)
 
--- THE ANSWER to a text, for any list of bytes. LF is 10.
+-- THE ANSWER to a text, for any list of bytes.
 unfoldable pub answered : List ℕ → Result
 answered t =
-    let rest = judge (reading 0 nothing 1 (split 10 t)) in
+    let rest = judge (reading 0 nothing 1 (split LF t)) in
     cond (ltb TEXT (length t)) (refused TextTooLong 0) rest

@@ -6,8 +6,7 @@ use mathlib.Core.Path.{_≡_, refl}
 use mathlib.Core.Option.{Option, none, some}
 use mathlib.Core.Bool.{Bool, true, false, not, cond, _&&_, _||_}
 use mathlib.Core.List.{List, [], _∷_, _++_, map}
-use lib.Dec.{eqb}
-use lib.IntN.{ℤ, pos, negsuc}
+use lib.IntN.{ℤ, pos}
 use lib.ListN.{getD}
 use Rattle.lists.specs.Lists.{onOpt, any, all}
 use Rattle.values.specs.declared.Ty.{Ty}
@@ -45,12 +44,12 @@ pub data Val : Type 0 where
   aList : List ℕ → Val
   somePairs : List (ℕ × ℕ) → Val
 
-abbrev one : {A : Type 0} → (A → Val) → Option A → Option (List Val)
+abbrev pub one : {A : Type 0} → (A → Val) → Option A → Option (List Val)
 one f none = none
 one f (some a) = some (f a ∷ [])
 
 -- the bytes d where the form has the value h: '#' is 35, '~' 126, '@' 64, '%' 37
-abbrev valueOf : List ℕ → List ℕ → Option (List Val)
+abbrev pub valueOf : List ℕ → List ℕ → Option (List Val)
 valueOf h d =
     let number = one aNumber (decimal d) in
     let integer = one anInteger (signed d) in
@@ -63,7 +62,7 @@ valueOf h d =
     cond (same h (35 ∷ [])) number two
 
 -- FIELDS: `key=value` has two parts at its '=' (61)
-abbrev fieldOf : List (List ℕ) → List (List ℕ) → Option (List Val)
+abbrev pub fieldOf : List (List ℕ) → List (List ℕ) → Option (List Val)
 fieldOf [] f = none
 fieldOf (k ∷ []) f = none
 fieldOf (k ∷ h ∷ []) [] = none
@@ -102,7 +101,7 @@ integerIn (somePairs l) = pos 0
 abbrev integer : List Val → ℕ → ℤ
 integer v i = integerIn (getD v i (aNumber 0))
 
-abbrev listAtIn : Val → List ℕ
+abbrev pub listAtIn : Val → List ℕ
 listAtIn (aNumber n) = []
 listAtIn (anInteger z) = []
 listAtIn (aList l) = l
@@ -111,7 +110,7 @@ listAtIn (somePairs l) = []
 abbrev listAt : List Val → ℕ → List ℕ
 listAt v i = listAtIn (getD v i (aNumber 0))
 
-abbrev pairsAtIn : Val → List (ℕ × ℕ)
+abbrev pub pairsAtIn : Val → List (ℕ × ℕ)
 pairsAtIn (aNumber n) = []
 pairsAtIn (anInteger z) = []
 pairsAtIn (aList l) = []
@@ -180,7 +179,7 @@ forms =
     []
 
 -- the form that the line is in: no line is in two (`apart` below)
-abbrev saidAs : List Form → List (List (List ℕ)) → Option Said
+abbrev pub saidAs : List Form → List (List (List ℕ)) → Option Said
 saidAs [] l = none
 saidAs (f ∷ fs) l =
     let later = saidAs fs l in

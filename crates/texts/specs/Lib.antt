@@ -4,3 +4,5 @@ pub mod Numbers
 pub mod Forms
 pub mod Reading
 pub mod Answered
+-- small texts and their answers
+pub mod Examples

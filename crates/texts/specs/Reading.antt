@@ -1,6 +1,6 @@
 -- Document 01, "The line format", "Sizes" and "Answers" 2 and 3: the lines of a text from the first to the last.
 use Prim.Native.Nat.{ℕ, suc, _+_}
-use mathlib.Core.Bool.{Bool, true, false, not, cond, _&&_, _||_}
+use mathlib.Core.Bool.{Bool, true, not, cond, _&&_, _||_}
 use mathlib.Core.List.{List, [], _∷_, reverse}
 use lib.Dec.{eqb, leb, ltb}
 use lib.ListN.{length}
@@ -36,7 +36,7 @@ put (startLine k) (tables es ms vs xs ss acs ns ts cs ds ks hs) = tables es ms v
 put (choiceLine c) (tables es ms vs xs ss acs ns ts cs ds ks hs) = tables es ms vs xs ss acs ns ts cs ds ks (c ∷ hs)
 
 -- "Kinds of line come in this order"
-abbrev kind : Said → ℕ
+abbrev pub kind : Said → ℕ
 kind (eventLine i t) = 1
 kind (machineLine i) = 2
 kind (varLine i v) = 3
@@ -54,15 +54,15 @@ abbrev START : ℕ
 START = 11
 
 -- 2: "a line out of order". `last` is the kind of the line before, 0 at the first line. "`start=1`: exactly one".
-abbrev ordered : ℕ → Said → Bool
+abbrev pub ordered : ℕ → Said → Bool
 ordered last x = cond (eqb (kind x) START) (ltb last START) (leb last (kind x))
 
 -- 3: "a line's own number out of sequence, a size above passed". i: the line's own number, n: how many there are before it
-abbrev next : ℕ → ℕ → ℕ → Bool
+abbrev pub next : ℕ → ℕ → ℕ → Bool
 next size n i = eqb i (n + 1) && leb i size
 
 -- "variables 16 a kind", of a kind that there is
-abbrev room : ℕ → ℕ → List Variable → Bool
+abbrev pub room : ℕ → ℕ → List Variable → Bool
 room machines k vs = not (there machines k) || ltb (length (keep (isOf k) vs)) VARIABLES
 
 -- "or `val`, `bits` or a live number out of range"
@@ -80,7 +80,7 @@ ranged (tables es ms vs xs ss acs ns ts cs ds ks hs) (actLine t) = true
 ranged (tables es ms vs xs ss acs ns ts cs ds ks hs) (startLine k) = true
 ranged (tables es ms vs xs ss acs ns ts cs ds ks hs) (choiceLine c) = ltb (length hs) CHOICES && ltb 0 (c .machine) && ltb (c .machine) SPENT && leb (c .bits) BITS
 
-abbrev programOf : Tables → ℕ → Program × List Choice
+abbrev pub programOf : Tables → ℕ → Program × List Choice
 programOf (tables es ms vs xs ss acs ns ts cs ds ks hs) k =
     (record { events = reverse es; machines = ms; variables = reverse vs; exprs = reverse xs; stmts = reverse ss; actions = reverse acs; states = reverse ns; steps = reverse ts; calls = reverse cs; acts = reverse ds; start = k }, reverse hs)
 
