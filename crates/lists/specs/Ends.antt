@@ -15,6 +15,7 @@ module _ {A : Type 0} where
   lastOf x [] = x
   lastOf x (y ∷ l) = lastOf y l
 
+  -- the two make the list again
   pub init-last : (x : A) (l : List A) → initOf x l ++ lastOf x l ∷ [] ≡ x ∷ l
   init-last x [] = refl
   init-last x (y ∷ l) = rw (init-last y l)
@@ -37,10 +38,12 @@ module _ {A : Type 0} where
   lastOf-snoc x [] z = refl
   lastOf-snoc x (y ∷ l) z = lastOf-snoc y l z
 
+  -- without the last one
   pub butLast-snoc : (l : List A) (z : A) → butLast (l ++ z ∷ []) ≡ l
   butLast-snoc [] z = refl
   butLast-snoc (x ∷ l) z = initOf-snoc x l z
 
+  -- the last one
   pub last-snoc : (l : List A) (z : A) → last? (l ++ z ∷ []) ≡ some z
   last-snoc [] z = refl
   last-snoc (x ∷ l) z = rw (lastOf-snoc x l z)
@@ -51,6 +54,7 @@ module _ {A : Type 0} where
       ∙ butLast-snoc (p ++ a ∷ initOf b q) (lastOf b q)
 
 module _ {A B : Type 0} (f : A → B) where
+  -- images of two lists
   pub map-append : (l m : List A) → map f (l ++ m) ≡ map f l ++ map f m
   map-append [] m = refl
   map-append (x ∷ l) m = rw (map-append l m)

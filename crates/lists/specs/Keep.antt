@@ -8,22 +8,27 @@ use lib.ListN.{length}
 use Rattle.lists.specs.Lists.{push, keep, All}
 
 module _ {A : Type 0} where
+  -- what is pushed stays in front
   pub push-append : (b : Bool) (x : A) (l m : List A) → push b x l ++ m ≡ push b x (l ++ m)
   push-append true x l m = refl
   push-append false x l m = refl
 
+  -- what is kept of two lists
   pub keep-append : (p : A → Bool) (l m : List A) → keep p (l ++ m) ≡ keep p l ++ keep p m
   keep-append p [] m = refl
   keep-append p (x ∷ l) m = rw (keep-append p l m, push-append)
 
+  -- a fact of every element, one pushed
   pub All-push : (P : A → Type 0) (b : Bool) (x : A) (l : List A) → P x → All P l → All P (push b x l)
   All-push P true x l h k = (h, k)
   All-push P false x l h k = k
 
+  -- a fact of every element holds of those kept
   pub All-keep : (P : A → Type 0) (p : A → Bool) (l : List A) → All P l → All P (keep p l)
   All-keep P p [] h = tt
   All-keep P p (x ∷ l) h = All-push P (p x) x (keep p l) (h .0) (All-keep P p l (h .1))
 
+  -- two facts of every element
   pub All-both : (P Q : A → Type 0) (l : List A) → All P l → All Q l → All (λ x. P x × Q x) l
   All-both P Q [] h k = tt
   All-both P Q (x ∷ l) h k = ((h .0, k .0), All-both P Q l (h .1) (k .1))
@@ -42,6 +47,7 @@ module _ {A : Type 0} where
   keep-none p [] h = refl
   keep-none p (x ∷ l) h = rw (h .0) (keep-none p l (h .1))
 
+-- what is kept of the images
 pub keep-map : {A B : Type 0} (p : B → Bool) (f : A → B) (l : List A) → keep p (map f l) ≡ map f (keep (λ x. p (f x)) l)
 keep-map p f [] = refl
 keep-map {A} {B} p f (x ∷ l) = rw (keep-map p f l) (go (p (f x)))

@@ -30,5 +30,6 @@ module _ (p : Program) where
   pub no-list : (c : Config) (l : List Choice) → regroup p c l ≡ none → Stepped (step p) c (butLast l) → ⊥
   no-list c l e h = theorem.regroup-22 (step p) own meets c l e h
 
+  -- and a list is given only when every such choice takes one
   pub a-list : (c : Config) (l m : List Choice) → regroup p c l ≡ some m → Stepped (step p) c (butLast l)
   a-list c l m e = theorem.regroup-0 (step p) own meets c l m e

@@ -168,6 +168,7 @@ put-length q x r e = go (waits x q) e
     go false e = room (ltb (length q) QUEUE) e
 
 module _ (p : Program) (c : Config) (i w : ℕ) (d : Distinct (c .rooms)) where
+  -- the count of one step
   abbrev Balanced : Rule → Config → Type 0
   Balanced R e = waiting c + tallyOf p c (record { machine = i; bits = w }) R .appended ≡ tallyOf p c (record { machine = i; bits = w }) R .dequeued + waiting e + tallyOf p c (record { machine = i; bits = w }) R .dropped
 

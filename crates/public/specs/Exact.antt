@@ -31,6 +31,7 @@ use Rattle.meetings.specs.Good.{regroup-good, no-list, a-list}
 use Rattle.public.specs.Public.{fit, publicStep, ran, stopped, publicRun, wroteNothing, listed, publicRegroup}
 
 module _ (p : Program) (c : Config) where
+  -- the program is sound and the configuration accepted
   abbrev pub Fit : Type 0
   Fit = Sound p × Accepted p c
 
@@ -75,6 +76,7 @@ module _ (p : Program) (c : Config) where
       to : cond (fit p c) (step p c x) (refused NotAccepted) ≡ refused NotAccepted → Fit → ⊥
       to e h = step-not-20 x (h .1) (rw (fit-true h) at e)
 
+  -- and is the step itself otherwise
   pub step-fit : (x : Choice) → Fit → publicStep p c x ≡ step p c x
   unfolding publicStep
   step-fit x h = rw (fit-true h)
@@ -95,16 +97,19 @@ module _ (p : Program) (c : Config) where
     unfolding publicRun
     run-20 h = rw (fit-false h)
 
+    -- 3
     pub run-3 : Fit → CHOICES < length l → publicRun p c l ≡ stopped c OutOfRange
     unfolding publicRun
     run-3 h k = rw (fit-true h, above (length l) CHOICES k)
 
+    -- otherwise
     pub run-fit : Fit → length l ≤ CHOICES → publicRun p c l ≡ ran (run (step p) c l)
     unfolding publicRun
     run-fit h k = rw (fit-true h, within k)
 
     -- REGROUP: the occasions of its answers, `room` being the length of the output buffer
     module _ (room : ℕ) where
+      -- each answer with its occasion
       pub data Answers : Answer → Type 0 where
         is-20 : (Fit → ⊥) → Answers NotAccepted
         is-3 : Fit → CHOICES < length l → Answers OutOfRange

@@ -13,6 +13,7 @@ module _ {E : Type 0} (own : E → ℕ) where
   abbrev pub mine : ℕ → List E → List E
   mine k l = keep (λ x. eqb (own x) k) l
 
+  -- all but those of machine k
   abbrev pub others : ℕ → List E → List E
   others k l = keep (λ x. not (eqb (own x) k)) l
 

@@ -87,6 +87,7 @@ unfoldable pub sound : Program → Bool
 sound p = meets p orderly .test && (sized p .test && (meets p (refers p) .test && (meets p (lower p) .test && (meets p (own p) .test
     && (meets p (single p) .test && (meets p (quiet p) .test && (meets p (low p) .test && stateful p .test)))))))
 
+-- both ways
 pub sound-is : (p : Program) → Tells (sound p) (Sound p)
 unfolding sound
 sound-is p = form (both (meets p orderly .tells) (both (sized p .tells) (both (meets p (refers p) .tells) (both (meets p (lower p) .tells) (both (meets p (own p) .tells)

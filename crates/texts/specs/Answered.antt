@@ -19,6 +19,7 @@ use Rattle.texts.specs.Reading.{Result, loaded, refused, nothing, readin
 abbrev pub passes : Program → List (Answer × Asked)
 passes p = (NotThere, refers p) ∷ (NotLower, lower p) ∷ (NotThere, own p) ∷ (Doubled, single p) ∷ (ExitLeaves, quiet p) ∷ (TooHigh, low p) ∷ []
 
+-- the answer of the first pass that some line does not meet, at its first faulty line; then 9
 abbrev pub judged : Program → List Choice → List (Answer × Asked) → Result
 judged p c [] = cond (stateful p .test) (loaded p c) (refused NoState 0)
 judged p c (t ∷ ts) =
@@ -26,6 +27,7 @@ judged p c (t ∷ ts) =
     let later = judged p c ts in
     cond (eqb line 0) later (refused (t .0) line)
 
+-- what reading hands on is judged; what it refuses stays refused
 abbrev pub judge : Result → Result
 judge (refused a k) = refused a k
 judge (loaded p c) = judged p c (passes p)

@@ -44,6 +44,7 @@ pub data Val : Type 0 where
   aList : List ℕ → Val
   somePairs : List (ℕ × ℕ) → Val
 
+-- a value in a form, alone
 abbrev pub one : {A : Type 0} → (A → Val) → Option A → Option (List Val)
 one f none = none
 one f (some a) = some (f a ∷ [])
@@ -89,33 +90,40 @@ numberIn (anInteger z) = 0
 numberIn (aList l) = 0
 numberIn (somePairs l) = 0
 
+-- its number
 abbrev number : List Val → ℕ → ℕ
 number v i = numberIn (getD v i (aNumber 0))
 
+-- the integer that a value is
 abbrev integerIn : Val → ℤ
 integerIn (aNumber n) = pos 0
 integerIn (anInteger z) = z
 integerIn (aList l) = pos 0
 integerIn (somePairs l) = pos 0
 
+-- value i as an integer: `val`
 abbrev integer : List Val → ℕ → ℤ
 integer v i = integerIn (getD v i (aNumber 0))
 
+-- the list that a value is
 abbrev pub listAtIn : Val → List ℕ
 listAtIn (aNumber n) = []
 listAtIn (anInteger z) = []
 listAtIn (aList l) = l
 listAtIn (somePairs l) = []
 
+-- value i as a list: `defer`
 abbrev listAt : List Val → ℕ → List ℕ
 listAt v i = listAtIn (getD v i (aNumber 0))
 
+-- the pairs that a value is
 abbrev pub pairsAtIn : Val → List (ℕ × ℕ)
 pairsAtIn (aNumber n) = []
 pairsAtIn (anInteger z) = []
 pairsAtIn (aList l) = []
 pairsAtIn (somePairs l) = l
 
+-- value i as pairs: `init`
 abbrev pairsAt : List Val → ℕ → List (ℕ × ℕ)
 pairsAt v i = pairsAtIn (getD v i (aNumber 0))
 
@@ -123,6 +131,7 @@ pairsAt v i = pairsAtIn (getD v i (aNumber 0))
 abbrev isOne : ℤ → Bool
 isOne z = eqInt z (pos 1)
 
+-- 0 or 1
 abbrev zeroOrOne : ℤ → Bool
 zeroOrOne z = eqInt z (pos 0) || isOne z
 
@@ -130,6 +139,7 @@ zeroOrOne z = eqInt z (pos 0) || isOne z
 abbrev pub Form : Type 0
 Form = String × (List Val → Said)
 
+-- THE 44 FORMS
 abbrev pub forms : List Form
 forms =
     ("event=# type=void", λ v. eventLine (number v 0) void) ∷
@@ -185,6 +195,7 @@ saidAs (f ∷ fs) l =
     let later = saidAs fs l in
     onOpt (valuesOf (fields (bytes (f .0))) l) later (λ v. some (f .1 v))
 
+-- WHAT A LINE SAYS; none where it is in no form
 unfoldable pub said : List ℕ → Option Said
 said l = saidAs forms (fields l)
 
@@ -204,6 +215,7 @@ two-spaces = refl
 abbrev isWord : List ℕ → Bool
 isWord h = not (any (same h) ((35 ∷ []) ∷ (126 ∷ []) ∷ (64 ∷ []) ∷ (37 ∷ []) ∷ []))
 
+-- two fields that no line has both of
 abbrev fieldsApart : List (List ℕ) → List (List ℕ) → Bool
 fieldsApart (k ∷ h ∷ []) (l ∷ g ∷ []) = not (same k l) || (isWord h && isWord g && not (same h g))
 fieldsApart [] f = false
@@ -213,12 +225,14 @@ fieldsApart (k ∷ h ∷ []) (l ∷ []) = false
 fieldsApart (k ∷ h ∷ []) (l ∷ g ∷ m ∷ f) = false
 fieldsApart (k ∷ h ∷ g ∷ t) f = false
 
+-- two forms that no line is in both of
 abbrev formsApart : List (List (List ℕ)) → List (List (List ℕ)) → Bool
 formsApart [] [] = false
 formsApart [] (g ∷ l) = true
 formsApart (f ∷ t) [] = true
 formsApart (f ∷ t) (g ∷ l) = fieldsApart f g || formsApart t l
 
+-- any two of them
 abbrev allApart : List (List (List (List ℕ))) → Bool
 allApart [] = true
 allApart (f ∷ fs) = all (formsApart f) fs && allApart fs

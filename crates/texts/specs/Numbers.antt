@@ -27,6 +27,7 @@ plain [] = false
 plain (b ∷ []) = true
 plain (b ∷ c ∷ d) = not (eqb b 48)
 
+-- the number that the bytes say, if they are a number
 abbrev pub decimal : List ℕ → Option ℕ
 decimal d = cond (plain d && all digit d) (some (value 0 d)) none
 
@@ -35,10 +36,12 @@ abbrev minus : Option ℕ → Option ℤ
 minus none = none
 minus (some n) = cond (eqb n 0) none (some (negℤ (pos n)))
 
+-- without a minus
 abbrev plus : Option ℕ → Option ℤ
 plus none = none
 plus (some n) = some (pos n)
 
+-- "only `val` may have a minus"
 abbrev pub signed : List ℕ → Option ℤ
 signed [] = none
 signed (b ∷ d) = cond (eqb b 45) (minus (decimal d)) (plus (decimal (b ∷ d)))
@@ -47,6 +50,7 @@ signed (b ∷ d) = cond (eqb b 45) (minus (decimal d)) (plus (decimal (b ∷ d))
 abbrev pub listed : {A : Type 0} → (List ℕ → Option A) → List ℕ → Option (List A)
 listed f d = cond (same d (bytes "none")) (some []) (each f (split 44 d))
 
+-- "`defer=2,5` ascending"
 abbrev pub numbers : List ℕ → Option (List ℕ)
 numbers d = only ascending (listed decimal d)
 
@@ -57,6 +61,7 @@ two (a ∷ []) = none
 two (a ∷ b ∷ []) = both (decimal a) (decimal b)
 two (a ∷ b ∷ c ∷ l) = none
 
+-- "pairs `3:7` of variable and expression, variables ascending"
 abbrev pub pairs : List ℕ → Option (List (ℕ × ℕ))
 pairs d = only (λ l. ascending (map (λ xe. xe .0) l)) (listed (λ x. two (split 58 x)) d)
 

@@ -18,9 +18,11 @@ use Rattle.texts.specs.Forms.{Said, eventLine, machineLine, varLine, exp
 pub data Tables : Type 0 where
   tables : List Ty → ℕ → List Variable → List Expr → List Stmt → List Action → List State → List Move → List Move → List Move → List ℕ → List Choice → Tables
 
+-- before the first line
 abbrev pub nothing : Tables
 nothing = tables [] 0 [] [] [] [] [] [] [] [] [] []
 
+-- one more line
 abbrev pub put : Said → Tables → Tables
 put (eventLine i t) (tables es ms vs xs ss acs ns ts cs ds ks hs) = tables (t ∷ es) ms vs xs ss acs ns ts cs ds ks hs
 put (machineLine i) (tables es ms vs xs ss acs ns ts cs ds ks hs) = tables es (suc ms) vs xs ss acs ns ts cs ds ks hs
@@ -50,6 +52,7 @@ kind (actLine t) = 10
 kind (startLine k) = 11
 kind (choiceLine c) = 12
 
+-- the kind of a `start` line
 abbrev START : ℕ
 START = 11
 
@@ -80,17 +83,21 @@ ranged (tables es ms vs xs ss acs ns ts cs ds ks hs) (actLine t) = true
 ranged (tables es ms vs xs ss acs ns ts cs ds ks hs) (startLine k) = true
 ranged (tables es ms vs xs ss acs ns ts cs ds ks hs) (choiceLine c) = ltb (length hs) CHOICES && ltb 0 (c .machine) && ltb (c .machine) SPENT && leb (c .bits) BITS
 
+-- the program and the choices that the lines say, where `start` names kind k
 abbrev pub programOf : Tables → ℕ → Program × List Choice
 programOf (tables es ms vs xs ss acs ns ts cs ds ks hs) k =
     (record { events = reverse es; machines = ms; variables = reverse vs; exprs = reverse xs; stmts = reverse ss; actions = reverse acs; states = reverse ns; steps = reverse ts; calls = reverse cs; acts = reverse ds; start = k }, reverse hs)
 
+-- the `start` lines
 abbrev startsOf : Tables → List ℕ
 startsOf (tables es ms vs xs ss acs ns ts cs ds ks hs) = ks
 
+-- a text is loaded, or refused with an answer and a line
 pub data Result : Type 0 where
   loaded : Program → List Choice → Result
   refused : Answer → ℕ → Result  -- with its line
 
+-- by the `start` lines: none is 2
 abbrev wholeWith : Tables → ℕ → List ℕ → Result
 wholeWith a k [] = refused NotInForm k
 wholeWith a k (s ∷ l) = let p = programOf a s in loaded (p .0) (p .1)

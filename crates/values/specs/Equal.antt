@@ -22,6 +22,7 @@ int-equal (pos m) (negsuc n) e = no e
 int-equal (negsuc m) (pos n) e = no e
 int-equal (negsuc m) (negsuc n) e = ap negsuc (eqb-true m n e)
 
+-- what the test holds of is equal
 pub value-equal : (a b : Value) → eqValue a b ≡ true → a ≡ b
 value-equal undefined undefined e = refl
 value-equal undefined (vbool b) e = no e
@@ -49,6 +50,7 @@ value-equal (vid a) (vint z) e = no e
 value-equal (vid a) (vevent n) e = no e
 value-equal (vid a) (vid i) e = ap idOf (eqb-true (a .0) (i .0) e)
 
+-- and it holds of what is equal
 pub value-same : (a : Value) → eqValue a a ≡ true
 value-same undefined = refl
 value-same (vbool true) = refl

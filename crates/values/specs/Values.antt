@@ -76,6 +76,7 @@ no-bool (vint z) = refl
 no-bool (vevent e) = refl
 no-bool (vid i) = refl
 
+-- and on the right
 pub undefined-right : (o : Binary) (x : Value) → apply2 o x undefined ≡ undefined
 undefined-right add x = no-int x
 undefined-right sub x = no-int x
