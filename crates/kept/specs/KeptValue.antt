@@ -21,7 +21,7 @@ use Rattle.programs.specs.declared.Leaf.{Leaf}
 use Rattle.programs.specs.declared.Leaf.the-variants.{Int as intVal, Bool as boolVal, Var as var, This as this, Msg as msg, Arg as arg, Bot as bot, Star as star}
 use Rattle.programs.specs.Trees.{Tree, tip, one, two, stars}
 use Rattle.machines.specs.Config.{Pending, idle, raising, returning, Pair, Local, Machine}
-use Rattle.machines.specs.Eval.{value}
+use Rattle.machines.specs.Eval.{storeOf, value}
 use Rattle.soundness.specs.Founded.{VariableOf}
 use Rattle.acceptance.specs.Accepted.{ValueOk, Typed, TypedAll, PairOk, PendingOk, LocalOk, MachineOk}
 
@@ -95,7 +95,7 @@ module _ (p : Program) (next : ℕ) where
 
   -- EXPRESSIONS
   module _ (i : ℕ) (l : Local) (w : ℕ) (low : 1 ≤ i) (high : i < next) (h : LocalOk p next l) where
-    leaf-ok : (k : ℕ) (x : Leaf) → ValueOk p next (value p i l w k (tip x))
+    leaf-ok : (k : ℕ) (x : Leaf) → ValueOk p next (value (storeOf p i l) w k (tip x))
     unfolding value
     leaf-ok k (intVal z) = checked-ok z
     leaf-ok k (boolVal b) = tt
@@ -106,11 +106,11 @@ module _ (p : Program) (next : ℕ) where
     leaf-ok k bot = tt
     leaf-ok k star = tt
 
-    pub value-ok : (k : ℕ) (t : Tree) → ValueOk p next (value p i l w k t)
+    pub value-ok : (k : ℕ) (t : Tree) → ValueOk p next (value (storeOf p i l) w k t)
     unfolding value
     value-ok k (tip x) = leaf-ok k x
-    value-ok k (one o t) = apply1-ok o (value p i l w k t)
-    value-ok k (two o s t) = apply2-ok o (value p i l w k s) (value p i l w (k + stars s) t)
+    value-ok k (one o t) = apply1-ok o (value (storeOf p i l) w k t)
+    value-ok k (two o s t) = apply2-ok o (value (storeOf p i l) w k s) (value (storeOf p i l) w (k + stars s) t)
 
   -- THE NEXT NUMBER GROWS
   value-more : (v : Value) → ValueOk p next v → ValueOk p (suc next) v

@@ -16,17 +16,27 @@ use Rattle.machines.specs.Config.{Local}
 abbrev pub bit : ℕ → ℕ → Bool
 bit w k = eqb ((w / 2 ^ k) % 2) 1
 
--- In machine i, whose local part is l, under the choice's bits w, where the first star is number k. (A program that is accepted has no int out of
--- range, so `checked` changes none.)
-module _ (p : Program) (i : ℕ) (l : Local) (w : ℕ) where
-  -- the value of a leaf, where the next star is number k
-  abbrev leafValue : ℕ → Leaf → Value
+-- 002: "σ is a map from variables declared in machine Name(id) to their values; this map contains an entry for the local variables this, msg and arg."
+pub record Store : Type 0 where
+  pub variable : ℕ → Value  -- by its number
+  pub this : Value
+  pub msg : Value
+  pub arg : Value
+
+-- of machine i, whose local part is l
+abbrev pub storeOf : Program → ℕ → Local → Store
+storeOf p i l = record { variable = λ x. getD (l .variables) (place p (l .kind) x) undefined; this = idOf i; msg = l .msg; arg = l .arg }
+
+-- σ(r) ↓ v, under the choice's bits w
+module _ (σ : Store) (w : ℕ) where
+  -- the value of a leaf, where the next star is number k. (A sound program has no int out of range, so `checked` changes none.)
+  abbrev pub leafValue : ℕ → Leaf → Value
   leafValue k (intVal z) = checked z
   leafValue k (boolVal b) = vbool b
-  leafValue k (var x) = getD (l .variables) (place p (l .kind) x) undefined
-  leafValue k this = idOf i
-  leafValue k msg = l .msg
-  leafValue k arg = l .arg
+  leafValue k (var x) = σ .variable x
+  leafValue k this = σ .this
+  leafValue k msg = σ .msg
+  leafValue k arg = σ .arg
   leafValue k bot = undefined
   leafValue k star = vbool (bit w k)
 
@@ -36,6 +46,6 @@ module _ (p : Program) (i : ℕ) (l : Local) (w : ℕ) where
   value k (one o t) = apply1 o (value k t)
   value k (two o s t) = apply2 o (value k s) (value (k + stars s) t)
 
-  -- the value of expression e; 0 is the undefined value
-  abbrev pub eval : ℕ → ℕ → Value
-  eval k e = value k (tree p e)
+-- the value of expression e in machine i, whose local part is l; 0 is the undefined value
+abbrev pub eval : Program → ℕ → Local → ℕ → ℕ → ℕ → Value
+eval p i l w k e = value (storeOf p i l) w k (tree p e)
