@@ -1,0 +1,3 @@
+pub mod Ints
+pub mod Rest
+pub mod Held
