@@ -36,7 +36,10 @@ module _ {E : Type 0} (own : E → ℕ) where
   -- A meeting is preceded by its machine's unplaced entries. At the end come the unplaced entries of each machine but k, by number, and those of k.
   unfoldable pub weave : (E → Bool) → ℕ → List E → List E → List E
   weave meet k u [] = byNumber (others k u) ++ mine k u
-  weave meet k u (x ∷ l) = cond (meet x) (mine (own x) u ++ x ∷ weave meet k (others (own x) u) l) (weave meet k (u ++ x ∷ []) l)
+  weave meet k u (x ∷ l) =
+      let meeting = mine (own x) u ++ x ∷ weave meet k (others (own x) u) l in
+      let private = weave meet k (u ++ x ∷ []) l in
+      cond (meet x) meeting private
 
   -- The list l, from which the last entry is set aside, regrouped; k is that entry's machine.
   abbrev pub regrouped : (E → Bool) → ℕ → List E → List E
