@@ -1,0 +1,2 @@
+-- laws that the proofs of the functions share
+pub mod Words
