@@ -1,10 +1,9 @@
 -- Loops that store a part of a flat list in order: the invariant is `filled b w t xs i`, the list xs whose part of width w at b has its first i places from t.
-use mathlib.Core.Path.{_≡_, refl, ap, sym, _∙_, subst}
-use mathlib.Core.List.{List, [], _∷_, _++_}
-use mathlib.Core.Logic.{_⊎_, inl, inr, ⊎-elim}
-use Prim.Native.Nat.{ℕ, suc, _+_, _-_, _*_, _≤_, _<_}
+use mathlib.Core.Path.{_≡_, ap, sym, _∙_}
+use mathlib.Core.List.{List}
+use Prim.Native.Nat.{ℕ, _+_, _≤_, _<_}
 use native.Mathlib.Omega.{arith}
-use lib.ListN.{length, take, drop, getD, set}
+use lib.ListN.{length, getD, set}
 use Rattle.rows.specs.Front.{front, front-length, front-none, front-more, front-all, front-high}
 use Rattle.rows.specs.Shift.{shifted, shift-length, shift-start, shift-more, shift-done}
 use Rattle.rows.specs.Part.{part, put, Off, part-length, put-length, part-get, put-in, put-out, put-part, put-set}

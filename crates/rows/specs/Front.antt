@@ -1,14 +1,14 @@
 -- A list l whose first i elements have been overwritten by those of t. A loop that stores t's elements one by one from the front, or from
 -- any place on where the two agree before it, has this for its invariant.
 use mathlib.Core.Path.{_≡_, refl, ap, sym, _∙_, subst}
-use mathlib.Core.List.{List, [], _∷_, _++_, append-nil, map}
-use mathlib.Core.Logic.{_⊎_, inl, inr, ⊎-elim}
+use mathlib.Core.List.{List, _++_, append-nil, map}
+use mathlib.Core.Logic.{⊎-elim}
 use Rattle.rows.specs.Pad.{below?}
 use Prim.Native.Nat.{ℕ, suc, _+_, _-_, _≤_, _<_}
 use native.Mathlib.Numerals.{add-one}
 use native.Mathlib.Omega.{arith}
 use lib.ListN.{length, take, drop, getD, set, length-append, length-take, length-drop, length-map, List·getD-append, drop-of-length-le}
-use lib.Seq.{ext-getD, getD-append-add, take-at, getD-set-same, getD-set-other, getD-take, getD-drop, length-take-le, take-suc, drop-cons, set-at, append-snoc, take-all}
+use lib.Seq.{ext-getD, getD-append-add, getD-take, getD-drop, length-take-le, take-suc, drop-cons, set-at, append-snoc, take-all}
 
 module _ {A : Type 0} where
   unfoldable pub front : List A → List A → ℕ → List A

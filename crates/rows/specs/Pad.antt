@@ -1,14 +1,13 @@
 -- A row of `size` places that holds the list xs and then zeros, z. With z as the default, what stands past the list's end is z too.
 -- One law for every array that is used as a list with a count.
 use mathlib.Core.Path.{_≡_, refl, ap, sym, _∙_, subst}
-use mathlib.Core.List.{List, [], _∷_, _++_, append-assoc}
+use mathlib.Core.List.{List, [], _∷_, _++_}
 use mathlib.Core.Logic.{_⊎_, inl, inr, ⊎-elim, dite}
 use Prim.Native.Nat.{ℕ, suc, _+_, _-_, _≤_, _<_}
-use native.Mathlib.Numerals.{add-one}
 use native.Mathlib.Omega.{arith}
 use native.Mathlib.Decide.{decLt}
 use lib.ListN.{length, take, drop, getD, set, replicate, length-append, length-take, length-drop, length-replicate, getD-replicate, List·getD-append, List·getD-eq-default, length-set}
-use lib.Seq.{ext-getD, getD-append-add, take-at, getD-set-same, getD-set-other, set-append-seam, append-snoc, getD-append-seam, getD-take, getD-drop, length-take-le}
+use lib.Seq.{ext-getD, getD-append-add, take-at, getD-set-same, getD-set-other, set-append-seam, append-snoc, getD-take, getD-drop, length-take-le}
 
 -- the two cases of an order
 pub below? : (i n : ℕ) → (i < n) ⊎ (n ≤ i)

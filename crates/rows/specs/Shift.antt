@@ -1,11 +1,11 @@
 -- Taking element k out of a row that holds n elements and then zeros, by moving the later ones down: what the loop's stores make.
-use mathlib.Core.Path.{_≡_, refl, ap, sym, _∙_, subst}
-use mathlib.Core.List.{List, [], _∷_, _++_}
-use mathlib.Core.Logic.{_⊎_, ⊎-elim}
-use Prim.Native.Nat.{ℕ, suc, _+_, _-_, _≤_, _<_}
+use mathlib.Core.Path.{_≡_, sym, _∙_}
+use mathlib.Core.List.{List}
+use mathlib.Core.Logic.{⊎-elim}
+use Prim.Native.Nat.{ℕ, _+_, _≤_, _<_}
 use native.Mathlib.Omega.{arith}
-use lib.ListN.{length, take, drop, getD, set, length-take, List·getD-eq-default, length-set}
-use lib.Seq.{getD-take, length-take-le, ext-getD, getD-set-same}
+use lib.ListN.{length, take, getD, set, List·getD-eq-default}
+use lib.Seq.{getD-take, length-take-le, ext-getD}
 use Rattle.rows.specs.Pad.{below?, pad, pad-length, pad-get, without, without-length, without-low, without-high}
 use Rattle.rows.specs.Front.{front, front-length, front-more, front-high, front-low, front-from}
 

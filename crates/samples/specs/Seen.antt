@@ -1,7 +1,7 @@
 -- What is seen of a text: its refusal, or its run down to the last configuration; and short names for writing a configuration down.
 use Prim.Native.Nat.{ℕ, _-_}
 use mathlib.Core.Option.{Option, none, some}
-use mathlib.Core.List.{List, [], _∷_, _++_}
+use mathlib.Core.List.{List, _++_}
 use lib.ListN.{length, replicate}
 use Rattle.answers.specs.declared.Answer.{Answer}
 use Rattle.values.specs.declared.Value.{Value}

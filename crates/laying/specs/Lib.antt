@@ -1,0 +1,2 @@
+-- what laying rooms makes of the flat lists
+pub mod Laying
