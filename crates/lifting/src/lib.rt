@@ -5,6 +5,7 @@ use copies::copy_u8;
 use copies::copy_u16;
 use copies::copy_u64;
 use tables::Kind;
+use tables::Program;
 use values::Live;
 ghost use mathlib.Core.Path.{_≡_};
 ghost use Prim.Native.Nat.{_<_};
@@ -13,69 +14,87 @@ ghost use Rattle.configs.specs.Flat.{flat, Sized, roomAt, held as heldBy};
 ghost use Rattle.lifting.specs.Lifting.{Lifted};
 
 // Row i of all rooms' states.
-fn lift_states(from: &[u8; 256], i: usize) -> [u8; 8]
+fn lift_states(from: &[u8; Program::ROOMS * Program::STACK], i: usize) -> [u8; Program::STACK]
     requires { ⌜ (i < 32) × (length (now from) ≡ 256) ⌝ }
     ensures { λ r. ⌜ Lifted (now (from .entry)) i 8 r ⌝ }
 {
-    let mut to = [0u8; 8];
-    copy_u8(&mut to, 0, from, i * 8, 8);
+    let mut to = [0u8; Program::STACK];
+    copy_u8(&mut to, 0, from, i * Program::STACK, Program::STACK);
     to
 }
 
 // Row i of all rooms' maps.
-fn lift_maps(from: &[u8; 16384], i: usize) -> [u8; 512]
+fn lift_maps(
+    from: &[u8; Program::ROOMS * Program::STACK * Program::EVENTS],
+    i: usize,
+) -> [u8; Program::STACK * Program::EVENTS]
     requires { ⌜ (i < 32) × (length (now from) ≡ 16384) ⌝ }
     ensures { λ r. ⌜ Lifted (now (from .entry)) i 512 r ⌝ }
 {
-    let mut to = [0u8; 512];
-    copy_u8(&mut to, 0, from, i * 512, 512);
+    let mut to = [0u8; Program::STACK * Program::EVENTS];
+    copy_u8(
+        &mut to,
+        0,
+        from,
+        i * (Program::STACK * Program::EVENTS),
+        Program::STACK * Program::EVENTS,
+    );
     to
 }
 
 // Row i of all rooms' values.
-fn lift_values(from: &[u64; 608], i: usize) -> [u64; 19]
+fn lift_values(
+    from: &[u64; Program::ROOMS * (Program::VARIABLES + 3)],
+    i: usize,
+) -> [u64; Program::VARIABLES + 3]
     requires { ⌜ (i < 32) × (length (now from) ≡ 608) ⌝ }
     ensures { λ r. ⌜ Lifted (now (from .entry)) i 19 r ⌝ }
 {
-    let mut to = [0u64; 19];
-    copy_u64(&mut to, 0, from, i * 19, 19);
+    let mut to = [0u64; Program::VARIABLES + 3];
+    copy_u64(
+        &mut to,
+        0,
+        from,
+        i * (Program::VARIABLES + 3),
+        Program::VARIABLES + 3,
+    );
     to
 }
 
 // Row i of all rooms' parts.
-fn lift_parts(from: &[u16; 1056], i: usize) -> [u16; 33]
+fn lift_parts(from: &[u16; Program::ROOMS * Program::ROW], i: usize) -> [u16; Program::ROW]
     requires { ⌜ (i < 32) × (length (now from) ≡ 1056) ⌝ }
     ensures { λ r. ⌜ Lifted (now (from .entry)) i 33 r ⌝ }
 {
-    let mut to = [0u16; 33];
-    copy_u16(&mut to, 0, from, i * 33, 33);
+    let mut to = [0u16; Program::ROW];
+    copy_u16(&mut to, 0, from, i * Program::ROW, Program::ROW);
     to
 }
 
 // Row i of all rooms' pairs.
-fn lift_pairs(from: &[u64; 512], i: usize) -> [u64; 16]
+fn lift_pairs(from: &[u64; Program::ROOMS * Program::QUEUE], i: usize) -> [u64; Program::QUEUE]
     requires { ⌜ (i < 32) × (length (now from) ≡ 512) ⌝ }
     ensures { λ r. ⌜ Lifted (now (from .entry)) i 16 r ⌝ }
 {
-    let mut to = [0u64; 16];
-    copy_u64(&mut to, 0, from, i * 16, 16);
+    let mut to = [0u64; Program::QUEUE];
+    copy_u64(&mut to, 0, from, i * Program::QUEUE, Program::QUEUE);
     to
 }
 
 // Room i.
 fn lift_room(
     i: usize,
-    ids: &[u32; 32],
-    kinds: &[u8; 32],
-    depths: &[usize; 32],
-    states: &[u8; 256],
-    maps: &[u8; 16384],
-    values: &[u64; 608],
-    counts: &[usize; 32],
-    parts: &[u16; 1056],
-    held: &[u64; 32],
-    waiting: &[usize; 32],
-    pairs: &[u64; 512],
+    ids: &[u32; Program::ROOMS],
+    kinds: &[u8; Program::ROOMS],
+    depths: &[usize; Program::ROOMS],
+    states: &[u8; Program::ROOMS * Program::STACK],
+    maps: &[u8; Program::ROOMS * Program::STACK * Program::EVENTS],
+    values: &[u64; Program::ROOMS * (Program::VARIABLES + 3)],
+    counts: &[usize; Program::ROOMS],
+    parts: &[u16; Program::ROOMS * Program::ROW],
+    held: &[u64; Program::ROOMS],
+    waiting: &[usize; Program::ROOMS],
+    pairs: &[u64; Program::ROOMS * Program::QUEUE],
 ) -> Room
     requires { ⌜ (i < 32) × Sized (flat (now ids) (now kinds) (now depths) (now states) (now maps) (now values) (now counts) (now parts) (now held) (now waiting) (now pairs) 0) ⌝ }
     ensures { λ r. ⌜ r ≡ roomAt (flat (now (ids .entry)) (now (kinds .entry)) (now (depths .entry)) (now (states .entry)) (now (maps .entry)) (now (values .entry)) (now (counts .entry)) (now (parts .entry)) (now (held .entry)) (now (waiting .entry)) (now (pairs .entry)) 0) i ⌝ }
@@ -109,17 +128,17 @@ fn lift_room(
 // THE CONFIGURATION that the flat arrays are.
 pub fn lift(
     next: u32,
-    ids: &[u32; 32],
-    kinds: &[u8; 32],
-    depths: &[usize; 32],
-    states: &[u8; 256],
-    maps: &[u8; 16384],
-    values: &[u64; 608],
-    counts: &[usize; 32],
-    parts: &[u16; 1056],
-    held: &[u64; 32],
-    waiting: &[usize; 32],
-    pairs: &[u64; 512],
+    ids: &[u32; Program::ROOMS],
+    kinds: &[u8; Program::ROOMS],
+    depths: &[usize; Program::ROOMS],
+    states: &[u8; Program::ROOMS * Program::STACK],
+    maps: &[u8; Program::ROOMS * Program::STACK * Program::EVENTS],
+    values: &[u64; Program::ROOMS * (Program::VARIABLES + 3)],
+    counts: &[usize; Program::ROOMS],
+    parts: &[u16; Program::ROOMS * Program::ROW],
+    held: &[u64; Program::ROOMS],
+    waiting: &[usize; Program::ROOMS],
+    pairs: &[u64; Program::ROOMS * Program::QUEUE],
 ) -> Config
     requires { ⌜ Sized (flat (now ids) (now kinds) (now depths) (now states) (now maps) (now values) (now counts) (now parts) (now held) (now waiting) (now pairs) next) ⌝ }
     ensures { λ r. ⌜ r ≡ heldBy (flat (now (ids .entry)) (now (kinds .entry)) (now (depths .entry)) (now (states .entry)) (now (maps .entry)) (now (values .entry)) (now (counts .entry)) (now (parts .entry)) (now (held .entry)) (now (waiting .entry)) (now (pairs .entry)) next) ⌝ }
@@ -138,9 +157,9 @@ pub fn lift(
         waiting,
         pairs,
     );
-    let mut rooms = [first; 32];
+    let mut rooms = [first; Program::ROOMS];
     let mut k: usize = 1;
-    while k < 32 {
+    while k < Program::ROOMS {
         let m = lift_room(
             k,
             ids,
