@@ -1,1 +1,6 @@
+-- what the two tables hold
 pub mod Index
+-- laws of making them
+pub mod Zeros
+pub mod Saying
+pub mod Placing
