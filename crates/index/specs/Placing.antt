@@ -89,23 +89,28 @@ counting-none kinds counts places e q f g =
 
 -- one more
 module _ (kinds counts places : List ℕ) (i k n : ℕ) (inv : Counting kinds i counts places) (h : i < 256) (e : k ≡ byte (getD kinds (i + 1) 0)) (q : n ≡ getD counts k 0) where
+  -- its kind's count
   is : n ≡ before kinds k i
   is = q ∙ inv .counts-are k (omega arith)
 
+  -- the counts with it
   counts-more : (m : ℕ) → m < 256 → getD (set counts k (n + 1)) m 0 ≡ before kinds m (i + 1)
   counts-more m b = dite (ℕ-discrete m k)
       (λ p. rw (p, getD-set-same counts k (n + 1) 0 (omega (arith, inv .counted)), before-more kinds k i, eq-eqb (byte (getD kinds (i + 1) 0)) k (sym e)) (omega (arith, is)))
       (λ p. rw (getD-set-other counts k m (n + 1) 0 p, before-more kinds m i, ne-eqb (byte (getD kinds (i + 1) 0)) m (λ z. p (omega arith))) (omega (arith, inv .counts-are m b)))
 
+  -- the places with its own
   places-more : (x : ℕ) → There (i + 1) x → getD (set places (i + 1) n) x 0 ≡ before kinds (byte (getD kinds x 0)) (x - 1)
   places-more x t = dite (ℕ-discrete x (i + 1))
       (λ p. let z : i + 1 - 1 ≡ i = omega arith in
       rw (p, getD-set-same places (i + 1) n 0 (omega (arith, inv .size)), z, ← e) is)
       (λ p. getD-set-other places (i + 1) x n 0 p ∙ inv .places-are x (omega arith, omega arith))
 
+  -- and none behind it
   none-more : (x : ℕ) → (There (i + 1) x → ⊥) → getD (set places (i + 1) n) x 0 ≡ 0
   none-more x t = getD-set-other places (i + 1) x n 0 (λ p. t (omega arith, omega arith)) ∙ inv .none x (λ y. t (omega arith, omega arith))
 
+  -- all of it
   pub counting-more : Counting kinds (i + 1) (set counts k (n + 1)) (set places (i + 1) n)
   counting-more = record {
     counted = length-set counts k (n + 1) ∙ inv .counted;
@@ -128,6 +133,7 @@ module _ (kinds counts places : List ℕ) (n : ℕ) (e : n ≡ count 256 kinds) 
       inv .places-are x t ∙ sym (before-kept kinds types (byte (getD kinds x 0)) (x - 1) (omega arith))
       ∙ ap (λ (k : ℕ). length (keep (isOf k) (take (x - 1) (variablesOf kinds types)))) (sym (kind-is x t))
 
+  -- all places are the definitions'
   pub counting-all : Placed (variablesOf kinds types) places
   counting-all =
       let l = variables-length kinds types in

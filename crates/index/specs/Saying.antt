@@ -116,13 +116,15 @@ module _ (steps calls acts : List Move) (zeros : List ℕ) (size : length zeros 
   abbrev two : List ℕ
   two = storedAll 1 calls one
 
+  -- the first keeps the size
   one-size : length one ≡ 12675
   one-size = all-length 0 steps zeros ∙ size
 
+  -- and the second
   two-size : length two ≡ 12675
   two-size = all-length 1 calls one ∙ one-size
 
-  -- is the table
+  -- with the acts it is the table
   pub said-all : Said steps calls acts (storedAll 2 acts two)
   said-all = record {
     size = all-length 2 acts two ∙ two-size;
@@ -139,7 +141,7 @@ module _ (steps calls acts : List Move) (zeros : List ℕ) (size : length zeros 
         ∙ all-other 2 0 n e (omega arith) (omega arith) (λ q. omega arith) steps zeros ∙ nothing (saidAt n e + 2));
   }
 
-  -- and nothing else is
+  -- the same of the three lists that are made one after the other
   pub said-stored : (a b l : List ℕ) → a ≡ storedAll 0 steps zeros → b ≡ storedAll 1 calls a → l ≡ storedAll 2 acts b → Said steps calls acts l
   said-stored a b l p q r = rw (r, q, p) said-all
 
