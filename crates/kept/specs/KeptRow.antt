@@ -20,7 +20,7 @@ use Rattle.machines.specs.Row.{onto, splits, lone, tidy}
 use Rattle.soundness.specs.Founded.{Founded}
 use Rattle.acceptance.specs.Accepted.{PartOk, NoSeq, counted, Heights, RowOk}
 
-seq-parts : (t : Stmt) (a b : ℕ) → isSeq t ≡ some (a, b) → has a (parts t) × has b (parts t)
+pub seq-parts : (t : Stmt) (a b : ℕ) → isSeq t ≡ some (a, b) → has a (parts t) × has b (parts t)
 seq-parts skip a b e = absurd (Option·none-ne-some _ e)
 seq-parts (assign x y) a b e = absurd (Option·none-ne-some _ e)
 seq-parts (new x k is) a b e = absurd (Option·none-ne-some _ e)
@@ -101,11 +101,11 @@ module _ (p : Program) (founded : Founded p) where
   part-part k s (suc t) h (inr o) = inr ((omega arith, All-has (suc t) _ (parts (stmtAt p s)) h (founded .parts-there s)), serves-part s (suc t) h k (o .1))
 
   -- THE SPLIT
-  onto-none : (s : ℕ) (r : List ℕ) → isSeq (stmtAt p s) ≡ none → onto p s r ≡ s ∷ r
+  pub onto-none : (s : ℕ) (r : List ℕ) → isSeq (stmtAt p s) ≡ none → onto p s r ≡ s ∷ r
   unfolding onto downward
   onto-none s r e = rw e
 
-  onto-some : (s a b : ℕ) (r : List ℕ) → isSeq (stmtAt p s) ≡ some (a, b) → a < s → onto p s r ≡ onto p a (b ∷ r)
+  pub onto-some : (s a b : ℕ) (r : List ℕ) → isSeq (stmtAt p s) ≡ some (a, b) → a < s → onto p s r ≡ onto p a (b ∷ r)
   unfolding onto downward
   onto-some s a b r e h = rw e (ap (λ g. g (b ∷ r)) (below-is (λ r. 0 ∷ r) (splits p) s a h))
 
