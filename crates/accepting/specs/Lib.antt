@@ -1,0 +1,2 @@
+-- a room that is accepted and written as it should be
+pub mod Rooms

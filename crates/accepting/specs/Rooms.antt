@@ -1,0 +1,143 @@
+-- A configuration is accepted with zeros in its unused places exactly when each room is, live numbers are distinct and the next one is in range; and what that is of
+-- one room, field by field.
+use Prim.Native.Nat.{ℕ, zero, suc, _+_, _*_, _≤_, _<_}
+use mathlib.Core.Path.{_≡_, refl, ap, sym, _∙_}
+use mathlib.Core.Logic.{_⊎_, inl, inr}
+use mathlib.Core.Option.{Option, none, some}
+use mathlib.Core.Bool.{Bool, true, false, cond, _&&_}
+use mathlib.Core.List.{List, [], _∷_, _++_, map, reverse, head-eq-of-cons-eq, tail-eq-of-cons-eq}
+use native.Mathlib.Nat.{zero-add}
+use native.Mathlib.Omega.{arith}
+use lib.Dec.{eqb}
+use lib.ListN.{length, getD, length-map}
+use lib.Seq.{ext-getD}
+use borrow.Author.Tests.{eq-eqb, ne-eqb}
+use Rattle.lists.specs.Lists.{All, There, flat}
+use Rattle.lists.specs.Tells.{Tells, both, form, at-most}
+use Rattle.rows.specs.Pad.{pad}
+use Rattle.rows.specs.Seek.{table, table-length, table-at}
+use Rattle.values.specs.declared.Value.{Value}
+use Rattle.values.specs.Values.{idOf}
+use Rattle.programs.specs.Sizes.{SPENT}
+use Rattle.programs.specs.Program.{Program}
+use Rattle.machines.specs.Config.{Frame, Pair, Machine, Config}
+use Rattle.acceptance.specs.Accepted.{RoomOk, MachineOk, LocalOk, Distinct, Accepted}
+use Rattle.codes.specs.Codes.{codeOf}
+use Rattle.configs.specs.declared.Room.{Room}
+use Rattle.configs.specs.declared.Config.{Config as Held}
+use Rattle.configs.specs.Decode.{downTo, machineOf, roomOf}
+use Rattle.configs.specs.Encode.{mapCodes, heldCode, pairNumber, taken, free, roomCode, written, Zeroed}
+use Rattle.configs.specs.Flat.{Flat, roomAt, held, flatConfig, room-path}
+
+-- ROOM k is accepted, and writing what it reads as gives it again
+abbrev pub RoomFit : Program → Flat → ℕ → Type 0
+RoomFit p f k = RoomOk p (f .next) (roomOf p (roomAt f k)) × (roomCode (roomOf p (roomAt f k)) ≡ roomAt f k)
+
+-- a table of what holds of each
+module _ {A : Type 0} (P : A → Type 0) (g : ℕ → A) where
+  table-all : (k n : ℕ) → ((j : ℕ) → j < n → P (g (k + j))) → All P (table g k n)
+  unfolding table
+  table-all k zero h = tt
+  table-all k (suc n) h =
+      let z : k + 0 ≡ k = omega arith in
+      (rw z at (h 0 (omega arith)), table-all (k + 1) n (λ j b. let e : k + suc j ≡ k + 1 + j = omega arith in rw e at (h (suc j) (omega arith))))
+
+  all-table : (k n : ℕ) → All P (table g k n) → (j : ℕ) → j < n → P (g (k + j))
+  unfolding table
+  all-table k zero h j b = absurd (omega arith)
+  all-table k (suc n) h zero b = let z : k + 0 ≡ k = omega arith in rw z (h .0)
+  all-table k (suc n) h (suc j) b = let e : k + suc j ≡ k + 1 + j = omega arith in rw e (all-table (k + 1) n (h .1) j (omega arith))
+
+  -- from place 0 on
+  up-table : (n : ℕ) → ((j : ℕ) → j < n → P (g j)) → All P (table g 0 n)
+  up-table n h = table-all 0 n (λ j b. rw (zero-add j) (h j b))
+
+  table-up : (n : ℕ) → All P (table g 0 n) → (j : ℕ) → j < n → P (g j)
+  table-up n h j b = rw (zero-add j) at (all-table 0 n h j b)
+
+-- of a table's image
+map-all : {A B : Type 0} (P : B → Type 0) (g : A → B) (l : List A) → All (λ x. P (g x)) l → All P (map g l)
+map-all P g [] h = tt
+map-all P g (x ∷ l) h = (h .0, map-all P g l (h .1))
+
+all-map : {A B : Type 0} (P : B → Type 0) (g : A → B) (l : List A) → All P (map g l) → All (λ x. P (g x)) l
+all-map P g [] h = tt
+all-map P g (x ∷ l) h = (h .0, all-map P g l (h .1))
+
+-- a change of each element that leaves it as it is
+same-map : {A B : Type 0} (g : A → B) (h : B → A) (l : List A) → All (λ x. h (g x) ≡ x) l → map h (map g l) ≡ l
+same-map g h [] e = refl
+same-map g h (x ∷ l) e = rw (e .0, same-map g h l (e .1))
+
+map-same : {A B : Type 0} (g : A → B) (h : B → A) (l : List A) → map h (map g l) ≡ l → All (λ x. h (g x) ≡ x) l
+map-same g h [] e = tt
+map-same g h (x ∷ l) e = (head-eq-of-cons-eq e, map-same g h l (tail-eq-of-cons-eq e))
+
+-- THE WHOLE CONFIGURATION
+module _ (p : Program) (f : Flat) where
+  rooms-length : length (flatConfig p f .rooms) ≡ 32
+  rooms-length = length-map (table (roomAt f) 0 32) (roomOf p) ∙ table-length (roomAt f) 0 32
+
+  -- what a room's test tells of the configuration
+  pub whole : ((k : ℕ) → k < 32 → RoomFit p f k) → Distinct (flatConfig p f .rooms) → 1 ≤ f .next → f .next ≤ SPENT → Accepted p (flatConfig p f) × Zeroed p (held f)
+  whole h d low high = (
+    record {
+      rooms-32 = rooms-length;
+      each-room = map-all (RoomOk p (f .next)) (roomOf p) (table (roomAt f) 0 32) (up-table (λ r. RoomOk p (f .next) (roomOf p r)) (roomAt f) 32 (λ j b. h j b .0));
+      distinct = d;
+      next-low = low;
+      next-high = high;
+    },
+    (λ i. record { next = f .next; rooms = same-map (roomOf p) roomCode (table (roomAt f) 0 32) (up-table (λ r. roomCode (roomOf p r) ≡ r) (roomAt f) 32 (λ j b. h j b .1)) i }),
+  )
+
+  -- and what the configuration tells of each room
+  pub each-fit : Accepted p (flatConfig p f) → Zeroed p (held f) → (k : ℕ) → k < 32 → RoomFit p f k
+  each-fit a z k b = (
+    table-up (λ r. RoomOk p (f .next) (roomOf p r)) (roomAt f) 32 (all-map (RoomOk p (f .next)) (roomOf p) (table (roomAt f) 0 32) (a .each-room)) k b,
+    table-up (λ r. roomCode (roomOf p r) ≡ r) (roomAt f) 32 (map-same (roomOf p) roomCode (table (roomAt f) 0 32) (ap (λ (c : Held). c .rooms) z)) k b,
+  )
+
+-- A LIVE ROOM, field by field, with the machine m that it reads as
+pub record LiveFit (p : Program) (next : ℕ) (r : Room) : Type 0 where
+  pub ok : MachineOk p next (machineOf p r)
+  pub states : pad 0 8 (reverse (map (λ x. x .state) (machineOf p r .loc .stack))) ≡ r .states
+  pub maps : pad 0 512 (flat mapCodes (reverse (machineOf p r .loc .stack))) ≡ r .maps
+  pub values : pad 0 16 (map codeOf (machineOf p r .loc .variables)) ++ codeOf (idOf (r .this .0)) ∷ codeOf (machineOf p r .loc .msg) ∷ codeOf (machineOf p r .loc .arg) ∷ [] ≡ r .values
+  pub parts : pad 0 33 (reverse (machineOf p r .loc .row)) ≡ r .parts
+  pub held : heldCode (machineOf p r .loc .pending) ≡ r .held
+  pub waiting : length (machineOf p r .queue) ≡ r .waiting
+  pub pairs : pad 0 16 (map pairNumber (machineOf p r .queue)) ≡ r .pairs
+
+-- a list that is kept last element first has its length
+downTo-length : {A : Type 0} (g : ℕ → A) (n : ℕ) → length (downTo g n) ≡ n
+downTo-length g zero = refl
+downTo-length g (suc n) = ap suc (downTo-length g n)
+
+module _ (p : Program) (f : Flat) (k : ℕ) where
+  -- a free room
+  pub free-fit : getD (f .ids) k 0 ≡ 0 → roomAt f k ≡ free → RoomFit p f k
+  free-fit e h = rw (eq-eqb (getD (f .ids) k 0) 0 e) (tt, sym h)
+
+  pub fit-free : getD (f .ids) k 0 ≡ 0 → RoomFit p f k → roomAt f k ≡ free
+  fit-free e h = sym ((rw (eq-eqb (getD (f .ids) k 0) 0 e) at h) .1)
+
+  -- a live one
+  module _ (n : getD (f .ids) k 0 ≡ 0 → ⊥) where
+    reads : roomOf p (roomAt f k) ≡ some (machineOf p (roomAt f k))
+    reads = ap (λ (b : Bool). cond b none (some (machineOf p (roomAt f k)))) (ne-eqb (getD (f .ids) k 0) 0 n)
+
+    pub live-fit : LiveFit p (f .next) (roomAt f k) → RoomFit p f k
+    live-fit h = rw reads (h .ok, room-path refl refl (downTo-length _ (getD (f .depths) k 0)) (h .states) (h .maps) (h .values) (downTo-length _ (getD (f .counts) k 0)) (h .parts) (h .held) (h .waiting) (h .pairs))
+
+    pub fit-live : RoomFit p f k → LiveFit p (f .next) (roomAt f k)
+    fit-live h = let q = rw reads at h in record {
+      ok = q .0;
+      states = ap (λ (r : Room). r .states) (q .1);
+      maps = ap (λ (r : Room). r .maps) (q .1);
+      values = ap (λ (r : Room). r .values) (q .1);
+      parts = ap (λ (r : Room). r .parts) (q .1);
+      held = ap (λ (r : Room). r .held) (q .1);
+      waiting = ap (λ (r : Room). r .waiting) (q .1);
+      pairs = ap (λ (r : Room). r .pairs) (q .1);
+    }

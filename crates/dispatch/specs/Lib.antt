@@ -1,0 +1,2 @@
+-- which rule's case a machine is in, by the numbers that stand in its room
+pub mod Cases
