@@ -30,8 +30,9 @@ use Rattle.configs.specs.Encode.{mapCodes, heldCode, pairNumber, taken, free, r
 use Rattle.configs.specs.Flat.{Flat, roomAt, held, flatConfig, room-path}
 
 -- ROOM k is accepted, and writing what it reads as gives it again
-abbrev pub RoomFit : Program → Flat → ℕ → Type 0
-RoomFit p f k = RoomOk p (f .next) (roomOf p (roomAt f k)) × (roomCode (roomOf p (roomAt f k)) ≡ roomAt f k)
+pub record RoomFit (p : Program) (f : Flat) (k : ℕ) : Type 0 where
+  pub ok : RoomOk p (f .next) (roomOf p (roomAt f k))
+  pub written : roomCode (roomOf p (roomAt f k)) ≡ roomAt f k
 
 -- a table of what holds of each
 module _ {A : Type 0} (P : A → Type 0) (g : ℕ → A) where
@@ -83,20 +84,20 @@ module _ (p : Program) (f : Flat) where
   whole h d low high = (
     record {
       rooms-32 = rooms-length;
-      each-room = map-all (RoomOk p (f .next)) (roomOf p) (table (roomAt f) 0 32) (up-table (λ r. RoomOk p (f .next) (roomOf p r)) (roomAt f) 32 (λ j b. h j b .0));
+      each-room = map-all (RoomOk p (f .next)) (roomOf p) (table (roomAt f) 0 32) (up-table (λ r. RoomOk p (f .next) (roomOf p r)) (roomAt f) 32 (λ j b. h j b .ok));
       distinct = d;
       next-low = low;
       next-high = high;
     },
-    (λ i. record { next = f .next; rooms = same-map (roomOf p) roomCode (table (roomAt f) 0 32) (up-table (λ r. roomCode (roomOf p r) ≡ r) (roomAt f) 32 (λ j b. h j b .1)) i }),
+    (λ i. record { next = f .next; rooms = same-map (roomOf p) roomCode (table (roomAt f) 0 32) (up-table (λ r. roomCode (roomOf p r) ≡ r) (roomAt f) 32 (λ j b. h j b .written)) i }),
   )
 
   -- and what the configuration tells of each room
   pub each-fit : Accepted p (flatConfig p f) → Zeroed p (held f) → (k : ℕ) → k < 32 → RoomFit p f k
-  each-fit a z k b = (
-    table-up (λ r. RoomOk p (f .next) (roomOf p r)) (roomAt f) 32 (all-map (RoomOk p (f .next)) (roomOf p) (table (roomAt f) 0 32) (a .each-room)) k b,
-    table-up (λ r. roomCode (roomOf p r) ≡ r) (roomAt f) 32 (map-same (roomOf p) roomCode (table (roomAt f) 0 32) (ap (λ (c : Held). c .rooms) z)) k b,
-  )
+  each-fit a z k b = record {
+    ok = table-up (λ r. RoomOk p (f .next) (roomOf p r)) (roomAt f) 32 (all-map (RoomOk p (f .next)) (roomOf p) (table (roomAt f) 0 32) (a .each-room)) k b;
+    written = table-up (λ r. roomCode (roomOf p r) ≡ r) (roomAt f) 32 (map-same (roomOf p) roomCode (table (roomAt f) 0 32) (ap (λ (c : Held). c .rooms) z)) k b;
+  }
 
 -- A LIVE ROOM, field by field, with the machine m that it reads as
 pub record LiveFit (p : Program) (next : ℕ) (r : Room) : Type 0 where
@@ -110,17 +111,17 @@ pub record LiveFit (p : Program) (next : ℕ) (r : Room) : Type 0 where
   pub pairs : pad 0 16 (map pairNumber (machineOf p r .queue)) ≡ r .pairs
 
 -- a list that is kept last element first has its length
-downTo-length : {A : Type 0} (g : ℕ → A) (n : ℕ) → length (downTo g n) ≡ n
+pub downTo-length : {A : Type 0} (g : ℕ → A) (n : ℕ) → length (downTo g n) ≡ n
 downTo-length g zero = refl
 downTo-length g (suc n) = ap suc (downTo-length g n)
 
 module _ (p : Program) (f : Flat) (k : ℕ) where
   -- a free room
   pub free-fit : getD (f .ids) k 0 ≡ 0 → roomAt f k ≡ free → RoomFit p f k
-  free-fit e h = rw (eq-eqb (getD (f .ids) k 0) 0 e) (tt, sym h)
+  free-fit e h = record { ok = rw (eq-eqb (getD (f .ids) k 0) 0 e) tt; written = rw (eq-eqb (getD (f .ids) k 0) 0 e) (sym h) }
 
   pub fit-free : getD (f .ids) k 0 ≡ 0 → RoomFit p f k → roomAt f k ≡ free
-  fit-free e h = sym ((rw (eq-eqb (getD (f .ids) k 0) 0 e) at h) .1)
+  fit-free e h = sym (rw (eq-eqb (getD (f .ids) k 0) 0 e) at (h .written))
 
   -- a live one
   module _ (n : getD (f .ids) k 0 ≡ 0 → ⊥) where
@@ -128,16 +129,16 @@ module _ (p : Program) (f : Flat) (k : ℕ) where
     reads = ap (λ (b : Bool). cond b none (some (machineOf p (roomAt f k)))) (ne-eqb (getD (f .ids) k 0) 0 n)
 
     pub live-fit : LiveFit p (f .next) (roomAt f k) → RoomFit p f k
-    live-fit h = rw reads (h .ok, room-path refl refl (downTo-length _ (getD (f .depths) k 0)) (h .states) (h .maps) (h .values) (downTo-length _ (getD (f .counts) k 0)) (h .parts) (h .held) (h .waiting) (h .pairs))
+    live-fit h = record { ok = rw reads (h .ok); written = rw reads (room-path refl refl (downTo-length _ (getD (f .depths) k 0)) (h .states) (h .maps) (h .values) (downTo-length _ (getD (f .counts) k 0)) (h .parts) (h .held) (h .waiting) (h .pairs)) }
 
     pub fit-live : RoomFit p f k → LiveFit p (f .next) (roomAt f k)
-    fit-live h = let q = rw reads at h in record {
-      ok = q .0;
-      states = ap (λ (r : Room). r .states) (q .1);
-      maps = ap (λ (r : Room). r .maps) (q .1);
-      values = ap (λ (r : Room). r .values) (q .1);
-      parts = ap (λ (r : Room). r .parts) (q .1);
-      held = ap (λ (r : Room). r .held) (q .1);
-      waiting = ap (λ (r : Room). r .waiting) (q .1);
-      pairs = ap (λ (r : Room). r .pairs) (q .1);
+    fit-live h = let q = rw reads at (h .written) in record {
+      ok = rw reads at (h .ok);
+      states = ap (λ (r : Room). r .states) q;
+      maps = ap (λ (r : Room). r .maps) q;
+      values = ap (λ (r : Room). r .values) q;
+      parts = ap (λ (r : Room). r .parts) q;
+      held = ap (λ (r : Room). r .held) q;
+      waiting = ap (λ (r : Room). r .waiting) q;
+      pairs = ap (λ (r : Room). r .pairs) q;
     }

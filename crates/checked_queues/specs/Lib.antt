@@ -1,0 +1,2 @@
+-- what is asked of a queue, and laws of its test
+pub mod Queues

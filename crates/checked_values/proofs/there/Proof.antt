@@ -1,0 +1,13 @@
+-- `checked_values::there` meets its contract: by the two bounds. Assumes nothing.
+use borrow.Author.Tests.{le-leb, lt-leb}
+use Rattle.checked_values.proofs.there.Statement.{statement}
+use Rattle.checked_values.proofs.there.Tie as tie
+
+returns : tie.Need-returns
+returns c = rw (lt-leb 1 (c .before .args .e) (c .if1 .taken))
+
+returns-2 : tie.Need-returns-2
+returns-2 c = rw (le-leb 1 (c .before .args .e) (c .if1 .left))
+
+pub there-spec : {M : Type 1} → statement M
+there-spec = tie.close (tie.spec returns returns-2)

@@ -1,0 +1,4 @@
+-- the first pair that is not held back
+pub mod Search
+-- what DEQUEUE is asked and leaves
+pub mod Dequeuing

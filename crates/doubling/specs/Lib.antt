@@ -1,0 +1,2 @@
+-- numbers named, and named again
+pub mod Doubling

@@ -1,0 +1,2 @@
+-- which expression serves which kind
+pub mod Naming

@@ -1,0 +1,2 @@
+-- what the arm that takes all other heads says
+pub mod Arms

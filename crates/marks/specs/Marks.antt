@@ -1,0 +1,41 @@
+-- Two tables that are worked out of a program: the height of each statement, and for each kind the statements that serve it.
+use Prim.Native.Nat.{ℕ, _+_, _*_, _≤_}
+use mathlib.Core.Path.{_≡_, refl}
+use mathlib.Core.Bool.{not}
+use mathlib.Core.List.{List}
+use lib.Dec.{eqb}
+use lib.ListN.{length, getD}
+use Rattle.programs.specs.Program.{Program}
+use Rattle.programs.specs.Statements.{height, serves}
+use Rattle.tables.specs.declared.Program.{Program as Tables}
+use Rattle.tables.specs.Decode.{stmtsOf, actionsOf, statesOf, programOf}
+
+-- `heights` holds the height of each statement; 0 and what is absent have height 1
+pub record Heights (p : Program) (heights : List ℕ) : Type 0 where
+  pub size : length heights ≡ 1025
+  pub height-of : (s : ℕ) → s ≤ 1024 → getD heights s 0 ≡ height p s
+
+-- `served` has a mark at k * 1025 + s where statement s serves kind k
+pub record Served (p : Program) (served : List ℕ) : Type 0 where
+  pub size : length served ≡ 17425
+  pub serves-at : (k s : ℕ) → 1 ≤ k → k ≤ 16 → 1 ≤ s → s ≤ length (p .stmts) → not (eqb (getD served (k * 1025 + s) 0) 0) ≡ serves p k s
+
+-- p is a program with these statements
+pub record Stated (stmts : List ℕ) (p : Program) : Type 0 where
+  pub inits : List ℕ
+  pub same : p .stmts ≡ stmtsOf stmts inits
+
+-- p is a program with these statements, actions and states
+pub record Peopled (stmts kinds bodies stateKinds entries exits : List ℕ) (p : Program) : Type 0 where
+  pub stated : Stated stmts p
+  pub flags : List ℕ
+  pub same-actions : p .actions ≡ actionsOf kinds bodies
+  pub same-states : p .states ≡ statesOf stateKinds entries exits flags
+
+-- LAWS FOR CALLERS: so is the program that the tables are
+pub stated-program : (q : Tables) → Stated (q .stmts) (programOf q)
+stated-program q = record { inits = q .inits; same = refl }
+
+-- with its actions and states
+pub peopled-program : (q : Tables) → Peopled (q .stmts) (q .«action_of») (q .«action_body») (q .«state_of») (q .«state_entry») (q .«state_exit») (programOf q)
+peopled-program q = record { stated = stated-program q; flags = q .defers; same-actions = refl; same-states = refl }

@@ -1,0 +1,2 @@
+-- what the pairs of an init list name
+pub mod Naming

@@ -1,0 +1,2 @@
+-- a head whose rule touches only the machine itself
+pub mod Owning

@@ -1,0 +1,2 @@
+-- no foreign variable, as the tables tell it
+pub mod Own

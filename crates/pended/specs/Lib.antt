@@ -1,0 +1,2 @@
+-- what is asked and left where something is pending, and which rule it is
+pub mod Pended

@@ -1,0 +1,2 @@
+-- the arms of a `match` on a head
+pub mod Arms

@@ -1,0 +1,2 @@
+-- which statements have no raise, return or leave inside, and the states whose exits are such
+pub mod Quiet

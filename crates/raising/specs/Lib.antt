@@ -1,0 +1,2 @@
+-- what RAISE is asked, and what it leaves
+pub mod Raising

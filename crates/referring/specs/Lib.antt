@@ -1,0 +1,2 @@
+-- what a state defers is there
+pub mod Deferring

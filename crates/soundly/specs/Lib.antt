@@ -1,0 +1,2 @@
+-- the passes, and what they tell together
+pub mod Soundly

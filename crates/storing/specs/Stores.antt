@@ -1,0 +1,91 @@
+-- A room after a change of its row and its values: what a rule leaves that stores values, too.
+use Prim.Native.Nat.{ℕ, _*_}
+use mathlib.Core.Path.{_≡_, refl, ap, sym}
+use mathlib.Core.Bool.{Bool, not}
+use mathlib.Core.List.{List, _∷_}
+use lib.Dec.{eqb}
+use lib.ListN.{getD, set}
+use Rattle.rows.specs.Part.{part}
+use Rattle.values.specs.declared.Value.{Value}
+use Rattle.programs.specs.Program.{Program, Stmt}
+use Rattle.machines.specs.Config.{Pending, Local}
+use Rattle.machines.specs.Locals.{remains}
+use Rattle.machines.specs.Rooms.{setLocal}
+use Rattle.configs.specs.Encode.{heldCode, taken}
+use Rattle.configs.specs.Flat.{Flat, room-path}
+use Rattle.parts.specs.Parts.{tidied, awaits}
+use Rattle.engine.specs.Engine.{Changed}
+use Rattle.engine.specs.Holding.{Elsewhere, RowBecomes}
+use Rattle.remaining.specs.Held.{untouched, touched-place, changed}
+use Rattle.statements.specs.Heading.{RowAsked, row-kept, row-then}
+
+-- the local part with other values
+abbrev pub valued : List Value → Value → Value → Local → Local
+valued vs x y l = record { kind = l .kind; stack = l .stack; variables = vs; msg = x; arg = y; row = l .row; pending = l .pending }
+
+-- the lists with another row, other values and something else that is pending
+abbrev pub withStored : Flat → List ℕ → List ℕ → List ℕ → List ℕ → Flat
+withStored f values counts parts held = record {
+  ids = f .ids;
+  kinds = f .kinds;
+  depths = f .depths;
+  states = f .states;
+  maps = f .maps;
+  values = values;
+  counts = counts;
+  parts = parts;
+  held = held;
+  waiting = f .waiting;
+  pairs = f .pairs;
+  next = f .next;
+}
+
+module _ {k : ℕ} {t : Stmt} {counts parts held : List ℕ} (a : RowAsked k t counts parts held) where
+  -- the lists as they are
+  pub stored-same : {values : List ℕ} → a .f .values ≡ values → withStored (a .f) values counts parts held ≡ a .f
+  stored-same e = λ i. withStored (a .f) (sym e i) (sym (a .counts-are) i) (sym (a .parts-are) i) (sym (a .held-are) i)
+
+  module _ {Of : Program → Type 0} (g : Program → List ℕ → List ℕ) {counts' parts' values' : List ℕ} (b : Bool)
+      (row : RowBecomes k counts parts Of (λ p r. tidied b p (g p r)) counts' parts') (of : Of (a .p))
+      (vs : List Value) (x y : Value) (off : Elsewhere k 19 (a .f .values) values') (store : part (k * 19) 19 values' ≡ taken (setLocal (valued vs x y (a .m .loc)) (a .m)) .values) where
+    -- the change of the row, by the machine's own lists
+    own : RowBecomes k (a .f .counts) (a .f .parts) Of (λ p r. tidied b p (g p r)) counts' parts'
+    own = rw (a .counts-are, a .parts-are) row
+
+    -- WHAT IS PENDING STAYS
+    pub stored-kept : b ≡ not (eqb (getD held k 0) 0)
+        → Changed (a .f) k (setLocal (remains (a .p) (g (a .p) (a .heading .s ∷ a .heading .r)) (a .m .loc .pending) (valued vs x y (a .m .loc))) (a .m)) (withStored (a .f) values' counts' parts' held)
+    stored-kept e = let h = row-kept a g b e row of .holds in rw (← a .held-are) (changed (a .f) k _ (withStored (a .f) values' counts' parts' (a .f .held)) (a .heading .stands .sized) (record {
+      ids = untouched;
+      kinds = untouched;
+      depths = untouched;
+      states = untouched;
+      maps = untouched;
+      values = off;
+      counts = own .counts-off;
+      parts = own .parts-off;
+      held = untouched;
+      waiting = untouched;
+      pairs = untouched;
+      next = refl;
+    }) (room-path (ap (λ r. r .this .0) h) (ap (λ r. r .kind .0) h) (ap (λ r. r .depth) h) (ap (λ r. r .states) h) (ap (λ r. r .maps) h) store
+        (ap (λ r. r .count) h) (ap (λ r. r .parts) h) (ap (λ r. r .held) h) (ap (λ r. r .waiting) h) (ap (λ r. r .pairs) h)))
+
+    -- q IS PENDING
+    pub stored-then : (q : Pending) → b ≡ awaits q
+        → Changed (a .f) k (setLocal (remains (a .p) (g (a .p) (a .heading .s ∷ a .heading .r)) q (valued vs x y (a .m .loc))) (a .m)) (withStored (a .f) values' counts' parts' (set held k (heldCode q)))
+    stored-then q e = let h = row-then a g b q e row of .holds in changed (a .f) k _ (withStored (a .f) values' counts' parts' (set held k (heldCode q))) (a .heading .stands .sized) (record {
+      ids = untouched;
+      kinds = untouched;
+      depths = untouched;
+      states = untouched;
+      maps = untouched;
+      values = off;
+      counts = own .counts-off;
+      parts = own .parts-off;
+      held = rw (a .held-are) (touched-place k (heldCode q) held);
+      waiting = untouched;
+      pairs = untouched;
+      next = refl;
+    }) (room-path (ap (λ r. r .this .0) h) (ap (λ r. r .kind .0) h) (ap (λ r. r .depth) h) (ap (λ r. r .states) h) (ap (λ r. r .maps) h) store
+        (ap (λ r. r .count) h) (ap (λ r. r .parts) h) (ap (λ r. r .held) h) (ap (λ r. r .waiting) h) (ap (λ r. r .pairs) h))

@@ -1,0 +1,78 @@
+-- A run of zeros in a list, and the loop that looks for one: it keeps the greatest number that it has seen. Tests that are known to hold or not to hold.
+use Prim.Native.Nat.{ℕ, _+_, _≤_, _<_}
+use mathlib.Core.Path.{_≡_, refl, sym, _∙_}
+use mathlib.Core.Logic.{dite}
+use mathlib.Core.Bool.{Bool, true, false, true≢false}
+use mathlib.Core.List.{List}
+use native.Mathlib.Omega.{arith}
+use native.Mathlib.Decide.{ℕ-discrete}
+use lib.Dec.{eqb}
+use lib.ListN.{length, getD}
+use Rattle.lists.specs.Tells.{Tells, form, equal}
+
+-- TESTS THAT ARE KNOWN
+-- what holds is told by true,
+pub granted : {P : Type 0} → P → Tells true P
+granted p = record { holds = λ e. p; test = λ q. refl }
+
+-- what does not hold by false,
+pub refuted : {P : Type 0} → (P → ⊥) → Tells false P
+refuted n = record { holds = λ e. absurd (true≢false (sym e)); test = λ p. absurd (n p) }
+
+-- and what a test that was false tells of does not hold.
+pub denied : {b : Bool} {P : Type 0} → Tells b P → b ≡ false → P → ⊥
+denied t e p = true≢false (sym (t .test p) ∙ e)
+
+-- what holds of each number below n, and of n, holds of each below n + 1
+pub each-more : (P : ℕ → Type 0) (n : ℕ) → ((k : ℕ) → k < n → P k) → P n → (k : ℕ) → k < n + 1 → P k
+each-more P n h p k b = dite (ℕ-discrete k n) (λ e. rw e p) (λ e. h k (omega arith))
+
+-- A RUN OF ZEROS
+-- the places from `from` on, up to `to`
+pub record Run (xs : List ℕ) (from to : ℕ) : Type 0 where
+  pub ordered : from ≤ to
+  pub inside : to ≤ length xs
+
+-- each of them is 0
+abbrev pub Zeros : ℕ → ℕ → List ℕ → Type 0
+Zeros from to xs = (k : ℕ) → from ≤ k → k < to → getD xs k 0 ≡ 0
+
+-- THE LOOP: `most` is the greatest number from `from` on, up to k, as far as being 0 goes
+pub record Seen (xs : List ℕ) (from to most k : ℕ) : Type 0 where
+  pub low : from ≤ k
+  pub high : k ≤ to
+  pub so-far : most ≡ 0 → Zeros from k xs
+  pub back : Zeros from k xs → most ≡ 0
+
+module _ (xs : List ℕ) (from to : ℕ) where
+  -- before the first turn
+  pub seen-none : from ≤ to → Seen xs from to 0 from
+  seen-none h = record { low = omega arith; high = h; so-far = λ e k a b. absurd (omega arith); back = λ z. refl }
+
+  module _ (most k : ℕ) (below : k < to) (seen : Seen xs from to most k) where
+    -- one more place
+    more : getD xs k 0 ≡ 0 → Zeros from k xs → Zeros from (k + 1) xs
+    more e z j a b = dite (ℕ-discrete j k) (λ q. rw q e) (λ q. z j a (omega arith))
+
+    -- a turn that meets a greater number
+    pub seen-greater : most < getD xs k 0 → Seen xs from to (getD xs k 0) (k + 1)
+    seen-greater g = record {
+      low = omega arith;
+      high = omega arith;
+      so-far = λ e. absurd (omega arith);
+      back = λ z. z k (seen .low) (omega arith);
+    }
+
+    -- and one that does not
+    pub seen-same : getD xs k 0 ≤ most → Seen xs from to most (k + 1)
+    seen-same l = record {
+      low = omega arith;
+      high = omega arith;
+      so-far = λ e. more (omega arith) (seen .so-far e);
+      back = λ z. seen .back (λ j a b. z j a (omega arith));
+    }
+
+  -- after the last turn
+  pub seen-all : (most k : ℕ) → to ≤ k → Seen xs from to most k → Tells (eqb most 0) (Zeros from to xs)
+  seen-all most k h seen = let e : k ≡ to = omega arith in
+      form (equal most 0) (λ z. rw e at (seen .so-far z)) (λ z. seen .back (rw e z))
