@@ -1,13 +1,14 @@
 -- What the tests of a configuration are asked of the lists that they are lent, and what they tell.
 use Prim.Native.Nat.{ℕ, _*_, _≤_, _<_}
-use mathlib.Core.Path.{_≡_, refl, ap, sym, _∙_}
-use mathlib.Core.Bool.{Bool, true, false, not, true≢false}
+use mathlib.Core.Path.{_≡_, ap, sym, _∙_}
+use mathlib.Core.Bool.{Bool, true, false, not}
 use mathlib.Core.List.{List}
 use native.Mathlib.Omega.{arith}
 use lib.Dec.{eqb}
 use lib.ListN.{length, getD}
+use borrow.Author.Tests.{not-true, not-false}
 use Rattle.rows.specs.Part.{part}
-use Rattle.lists.specs.Tells.{Tells}
+use Rattle.lists.specs.Tells.{Tells, granted, refuted, denied}
 use Rattle.programs.specs.Sizes.{EVENTS, SPENT}
 use Rattle.programs.specs.Program.{Program}
 use Rattle.soundness.specs.Sound.{Sound}
@@ -20,7 +21,6 @@ use Rattle.configs.specs.Decode.{pendingOf}
 use Rattle.marks.specs.Marks.{Heights, Served}
 use Rattle.configs.specs.Encode.{Zeroed}
 use Rattle.configs.specs.Flat.{Flat, Sized, held, flatConfig}
-use Rattle.zeros.specs.Zeros.{granted, refuted, denied}
 use Rattle.checked_values.specs.Numbers.{HeldNumber}
 use Rattle.checked_queues.specs.Queues.{QueueHeld}
 use Rattle.checked_variables.specs.Variables.{ValuesHeld}
@@ -30,15 +30,6 @@ use Rattle.checked_rows.specs.CheckedRows.{RowHeld}
 use Rattle.checked_rows.specs.CheckedRows as rows
 use Rattle.accepting.specs.Rooms.{RoomFit, whole, each-fit}
 use Rattle.accepting.specs.Live.{Tested, tested-fit, fit-tested}
-
--- a test that does not fail, and one that does
-pub not-false : {b : Bool} → not b ≡ false → b ≡ true
-not-false {b = true} e = refl
-not-false {b = false} e = absurd (true≢false e)
-
-pub not-true : {b : Bool} → not b ≡ true → b ≡ false
-not-true {b = true} e = absurd (true≢false (sym e))
-not-true {b = false} e = refl
 
 -- THE PROGRAM p is the lent tables', with the heights of its statements and the kinds that they serve
 pub record Told (types owners vartypes stmts doers homes heights served : List ℕ) (machines : ℕ) (p : Program) : Type 0 where
@@ -129,7 +120,7 @@ module _ {types owners vartypes stmts doers homes heights served : List ℕ} {ma
 
   -- a test that fails
   pub fails : {b : Bool} {P : Type 0} → (Tested p f i → P) → Tells b P → not b ≡ true → Tells false (RoomFit p f i)
-  fails part told h = refuted (λ r. denied told (not-true h) (part (tests r)))
+  fails part told h = refuted (λ r. denied told (not-true _ h) (part (tests r)))
 
   -- ALL TESTS BUT THE QUEUE'S have passed
   pub passes : {q a b c d : Bool} → getD (f .ids) i 0 < f .next → (getD (f .kinds) i 0 ≡ 0 → ⊥) → getD (f .kinds) i 0 ≤ machines
@@ -142,10 +133,10 @@ module _ {types owners vartypes stmts doers homes heights served : List ℕ} {ma
     holds = λ e. tested-fit p (t .sound) f i n (record {
       high = high;
       kind-there = (omega (arith, some), omega (arith, few, t .machines-are));
-      stack = sa .holds (not-false ha);
-      values = sb .holds (not-false hb);
-      pending = sc .holds (not-false hc);
-      row = sd .holds (not-false hd);
+      stack = sa .holds (not-false _ ha);
+      values = sb .holds (not-false _ hb);
+      pending = sc .holds (not-false _ hc);
+      row = sd .holds (not-false _ hd);
       queue = sq .holds e;
     });
     test = λ r. sq .test (tests r .queue);

@@ -17,7 +17,8 @@ use Rattle.checked_queues.specs.Queues.{QueueHeld}
 use Rattle.checked_variables.specs.Variables.{ValuesHeld}
 use Rattle.checked_stacks.specs.CheckedStacks.{StackHeld}
 use Rattle.checked_rows.specs.CheckedRows.{RowHeld}
-use Rattle.accepting.specs.Rooms.{RoomFit, LiveFit, live-fit, fit-live, downTo-length}
+use Rattle.configs.specs.Reversed.{downTo-length}
+use Rattle.accepting.specs.Rooms.{RoomFit, LiveFit, live-fit, fit-live}
 
 -- WHAT THE TESTS TELL of the machine in room i
 pub record Tested (p : Program) (f : Flat) (i : ℕ) : Type 0 where

@@ -1,32 +1,28 @@
 -- A configuration is accepted with zeros in its unused places exactly when each room is, live numbers are distinct and the next one is in range; and what that is of
 -- one room, field by field.
-use Prim.Native.Nat.{ℕ, zero, suc, _+_, _*_, _≤_, _<_}
+use Prim.Native.Nat.{ℕ, zero, suc, _+_, _≤_, _<_}
 use mathlib.Core.Path.{_≡_, refl, ap, sym, _∙_}
-use mathlib.Core.Logic.{_⊎_, inl, inr}
-use mathlib.Core.Option.{Option, none, some}
-use mathlib.Core.Bool.{Bool, true, false, cond, _&&_}
+use mathlib.Core.Option.{none, some}
+use mathlib.Core.Bool.{Bool, cond}
 use mathlib.Core.List.{List, [], _∷_, _++_, map, reverse, head-eq-of-cons-eq, tail-eq-of-cons-eq}
 use native.Mathlib.Nat.{zero-add}
 use native.Mathlib.Omega.{arith}
-use lib.Dec.{eqb}
 use lib.ListN.{length, getD, length-map}
-use lib.Seq.{ext-getD}
 use borrow.Author.Tests.{eq-eqb, ne-eqb}
-use Rattle.lists.specs.Lists.{All, There, flat}
-use Rattle.lists.specs.Tells.{Tells, both, form, at-most}
+use Rattle.lists.specs.Keep.{map-back}
+use Rattle.configs.specs.Reversed.{downTo-length}
+use Rattle.lists.specs.Lists.{All, flat}
 use Rattle.rows.specs.Pad.{pad}
-use Rattle.rows.specs.Seek.{table, table-length, table-at}
-use Rattle.values.specs.declared.Value.{Value}
+use Rattle.rows.specs.Seek.{table, table-length}
 use Rattle.values.specs.Values.{idOf}
 use Rattle.programs.specs.Sizes.{SPENT}
 use Rattle.programs.specs.Program.{Program}
-use Rattle.machines.specs.Config.{Frame, Pair, Machine, Config}
-use Rattle.acceptance.specs.Accepted.{RoomOk, MachineOk, LocalOk, Distinct, Accepted}
+use Rattle.acceptance.specs.Accepted.{RoomOk, MachineOk, Distinct, Accepted}
 use Rattle.codes.specs.Codes.{codeOf}
 use Rattle.configs.specs.declared.Room.{Room}
 use Rattle.configs.specs.declared.Config.{Config as Held}
-use Rattle.configs.specs.Decode.{downTo, machineOf, roomOf}
-use Rattle.configs.specs.Encode.{mapCodes, heldCode, pairNumber, taken, free, roomCode, written, Zeroed}
+use Rattle.configs.specs.Decode.{machineOf, roomOf}
+use Rattle.configs.specs.Encode.{mapCodes, heldCode, pairNumber, free, roomCode, written, Zeroed}
 use Rattle.configs.specs.Flat.{Flat, roomAt, held, flatConfig, room-path}
 
 -- ROOM k is accepted, and writing what it reads as gives it again
@@ -65,11 +61,7 @@ all-map : {A B : Type 0} (P : B → Type 0) (g : A → B) (l : List A) → All P
 all-map P g [] h = tt
 all-map P g (x ∷ l) h = (h .0, all-map P g l (h .1))
 
--- a change of each element that leaves it as it is
-same-map : {A B : Type 0} (g : A → B) (h : B → A) (l : List A) → All (λ x. h (g x) ≡ x) l → map h (map g l) ≡ l
-same-map g h [] e = refl
-same-map g h (x ∷ l) e = rw (e .0, same-map g h l (e .1))
-
+-- and a change of each element that leaves the list as it is
 map-same : {A B : Type 0} (g : A → B) (h : B → A) (l : List A) → map h (map g l) ≡ l → All (λ x. h (g x) ≡ x) l
 map-same g h [] e = tt
 map-same g h (x ∷ l) e = (head-eq-of-cons-eq e, map-same g h l (tail-eq-of-cons-eq e))
@@ -89,7 +81,7 @@ module _ (p : Program) (f : Flat) where
       next-low = low;
       next-high = high;
     },
-    (λ i. record { next = f .next; rooms = same-map (roomOf p) roomCode (table (roomAt f) 0 32) (up-table (λ r. roomCode (roomOf p r) ≡ r) (roomAt f) 32 (λ j b. h j b .written)) i }),
+    (λ i. record { next = f .next; rooms = map-back roomCode (roomOf p) (table (roomAt f) 0 32) (up-table (λ r. roomCode (roomOf p r) ≡ r) (roomAt f) 32 (λ j b. h j b .written)) i }),
   )
 
   -- and what the configuration tells of each room
@@ -109,11 +101,6 @@ pub record LiveFit (p : Program) (next : ℕ) (r : Room) : Type 0 where
   pub held : heldCode (machineOf p r .loc .pending) ≡ r .held
   pub waiting : length (machineOf p r .queue) ≡ r .waiting
   pub pairs : pad 0 16 (map pairNumber (machineOf p r .queue)) ≡ r .pairs
-
--- a list that is kept last element first has its length
-pub downTo-length : {A : Type 0} (g : ℕ → A) (n : ℕ) → length (downTo g n) ≡ n
-downTo-length g zero = refl
-downTo-length g (suc n) = ap suc (downTo-length g n)
 
 module _ (p : Program) (f : Flat) (k : ℕ) where
   -- a free room

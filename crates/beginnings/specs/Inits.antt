@@ -13,7 +13,7 @@ use lib.Dec.{eqb}
 use lib.ListN.{length, drop, getD, set, length-map, length-set, List·getD-map, drop-of-length-le}
 use lib.Seq.{drop-cons, getD-set-same, getD-set-other}
 use Rattle.lists.specs.Lists.{at}
-use Rattle.lists.specs.Facts.{has, first-has, or-right}
+use Rattle.lists.specs.Facts.{has, first-has, or-right, All-at}
 use Rattle.rows.specs.Seek.{table-length, table-get}
 use Rattle.values.specs.declared.Value.{Value}
 use Rattle.values.specs.declared.Value.the-variants.{Undefined as undefined}
@@ -34,7 +34,6 @@ use Rattle.tables.specs.Decode.{noVariable, pairIn, pairsOf}
 use Rattle.index.specs.Index.{Places}
 use Rattle.evaluation.specs.Evaluated.{REST, evaluated, Readable}
 use Rattle.configs.specs.Flat.{Flat}
-use Rattle.configs.specs.Reversed.{All-at}
 use Rattle.engine.specs.Engine.{Stands}
 use Rattle.stored.specs.Stored.{place-own, place-there, readable, gives-code, gives-value, gives-rest}
 use Rattle.sending.specs.Heads.{head-refers}

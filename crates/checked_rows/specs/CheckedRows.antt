@@ -26,7 +26,8 @@ use Rattle.tables.specs.Tables.{stmt-head, stmts-length}
 use Rattle.configs.specs.Decode.{downTo}
 use Rattle.parts.specs.Parts.{rowAt, Said, awaits, row-part, isSkipHead, isSeqHead}
 use Rattle.zeros.specs.Zeros.{Zeros}
-use Rattle.zeros.specs.Packed.{down-length, reverse-down, packed, unpacked}
+use Rattle.configs.specs.Reversed.{downTo-length}
+use Rattle.zeros.specs.Packed.{reverse-down, packed, unpacked}
 use Rattle.marks.specs.Marks.{Heights, Served}
 
 -- WHAT IS ASKED
@@ -201,13 +202,13 @@ module _ (stmts heights served : List ℕ) (pending : Bool) (p : Program) (q : P
   parts-hold (suc n) h =
       let rest = parts-hold n (λ j l. h j (omega arith)) in
       let first = part-holds (n + one pending) (getD parts (b + n) 0) (h n (omega arith)) in
-      ((first .0, rest .0), (rw (down-length (λ j. getD parts (b + j) 0) n) (first .1), rest .1))
+      ((first .0, rest .0), (rw (downTo-length (λ j. getD parts (b + j) 0) n) (first .1), rest .1))
 
   -- and the other way round.
   parts-fit : (n : ℕ) → All (PartOk p k) (rowAt b n parts) → Low p (one pending) (rowAt b n parts) → PartsFit heights served parts (count STMTS stmts) b n k (one pending)
   parts-fit zero a l j h = absurd (omega arith)
   parts-fit (suc n) a l j h = dite (ℕ-discrete j n)
-      (λ e. rw e (part-fits (n + one pending) (getD parts (b + n) 0) (a .0) (rw (down-length (λ j. getD parts (b + j) 0) n) at (l .0))))
+      (λ e. rw e (part-fits (n + one pending) (getD parts (b + n) 0) (a .0) (rw (downTo-length (λ j. getD parts (b + j) 0) n) at (l .0))))
       (λ e. parts-fit n (a .1) (l .1) j (omega arith))
 
   -- a row is in form by its head,

@@ -14,6 +14,7 @@ use lib.Seq.{length-take-le}
 use Rattle.lists.specs.Lists.{at, All, There, flat}
 use Rattle.lists.specs.Tells.{Tells, form}
 use Rattle.rows.specs.Pad.{pad, pad-length}
+use Rattle.rows.specs.Runs.{part-part}
 use Rattle.rows.specs.Part.{part, part-length, part-get}
 use Rattle.programs.specs.Sizes.{LIVE, STACK, EVENTS, STATES, ACTIONS}
 use Rattle.programs.specs.Program.{Program, stateAt, actionAt}
@@ -24,10 +25,11 @@ use Rattle.tables.specs.Tables.{states-length, actions-length}
 use Rattle.tables.specs.Numbered.{at-row}
 use Rattle.configs.specs.Decode.{downTo, replyOf, frameAt}
 use Rattle.configs.specs.Encode.{replyCode, mapCodes}
-use Rattle.configs.specs.Reversed.{All-reverse, padded-part}
+use Rattle.lists.specs.Keep.{All-reverse}
+use Rattle.configs.specs.Reversed.{padded-part, downTo-at, downTo-length}
 use Rattle.zeros.specs.Zeros.{Zeros}
-use Rattle.zeros.specs.Packed.{down-length, reverse-down, packed, unpacked}
-use Rattle.checked_stacks.specs.Widths.{part-part, rows-flat, down-get, down-each, down-all, down-map, take-each, take-all}
+use Rattle.zeros.specs.Packed.{reverse-down, packed, unpacked}
+use Rattle.checked_stacks.specs.Widths.{rows-flat, down-each, down-all, down-map, take-each, take-all}
 
 -- WHAT IS ASKED
 -- the frames of a room's 8 states and 512 places of maps, the last one first
@@ -164,7 +166,7 @@ module _ (state-of action-of : List ℕ) (events : ℕ) (p : Program) (told : To
 
     -- the 64 places of a frame's map
     map-at : (d : ℕ) → d < STACK → part (d * EVENTS) EVENTS (part (i * (STACK * EVENTS)) (STACK * EVENTS) maps) ≡ part (i * (STACK * EVENTS) + d * EVENTS) EVENTS maps
-    map-at d h = part-part (i * (STACK * EVENTS)) (STACK * EVENTS) (d * EVENTS) EVENTS maps maps-inside (omega arith)
+    map-at d h = part-part 0 (i * (STACK * EVENTS)) (STACK * EVENTS) (d * EVENTS) EVENTS maps (omega arith) maps-inside
 
     -- are 64
     map-long : (d : ℕ) → d < STACK → length (part (i * (STACK * EVENTS) + d * EVENTS) EVENTS maps) ≡ EVENTS
@@ -221,7 +223,7 @@ module _ (state-of action-of : List ℕ) (events : ℕ) (p : Program) (told : To
 
       -- as many as the stack is deep
       upward-length : length upward ≡ depth
-      upward-length = length-reverse (downTo frame depth) ∙ down-length frame depth
+      upward-length = length-reverse (downTo frame depth) ∙ downTo-length frame depth
 
       -- their states are the room's first places
       states-front : reverse (map (λ f. f .state) (downTo frame depth)) ≡ take depth (part (i * STACK) STACK states)
@@ -232,7 +234,7 @@ module _ (state-of action-of : List ℕ) (events : ℕ) (p : Program) (told : To
           → flat mapCodes upward ≡ take (depth * EVENTS) (part (i * (STACK * EVENTS)) (STACK * EVENTS) maps)
       maps-front h =
           rows-flat mapCodes EVENTS noFrame upward (part (i * (STACK * EVENTS)) (STACK * EVENTS) maps)
-          (λ d b. let l : d < depth = omega (arith, upward-length) in h d l ∙ ap mapCodes (sym (down-get frame noFrame depth d l)))
+          (λ d b. let l : d < depth = omega (arith, upward-length) in h d l ∙ ap mapCodes (sym (downTo-at frame noFrame depth d l)))
           ∙ ap (λ (n : ℕ). take (n * EVENTS) (part (i * (STACK * EVENTS)) (STACK * EVENTS) maps)) upward-length
 
       -- each is, where all of them, with zeros behind them, are the room's
@@ -242,7 +244,7 @@ module _ (state-of action-of : List ℕ) (events : ℕ) (p : Program) (told : To
           ap (λ (l : List ℕ). part (d * EVENTS) EVENTS l) (sym e)
           ∙ padded-part mapCodes EVENTS noFrame 0 (STACK * EVENTS) upward d (omega (arith, upward-length))
           (All-reverse (λ f. length (mapCodes f) ≡ EVENTS) (downTo frame depth) (down-all frame (λ f. length (mapCodes f) ≡ EVENTS) depth (λ j b. map-width j (omega (arith, few)))))
-          ∙ ap mapCodes (down-get frame noFrame depth d h)
+          ∙ ap mapCodes (downTo-at frame noFrame depth d h)
 
       -- the numbers fit where the stack is held so
       stack-holds : StatesFit state-of states k depth (i * STACK) → MapsFit action-of maps k events depth (i * (STACK * EVENTS))

@@ -1,29 +1,17 @@
 -- Laws of lists that a call stack in flat arrays needs: a part of a part; rows of one width, one behind the other; what holds of every element of a list
 -- that is kept last element first, or of a list's first elements.
 use Prim.Native.Nat.{ℕ, zero, suc, _+_, _*_, _≤_, _<_}
-use mathlib.Core.Path.{_≡_, refl, ap, sym, _∙_}
+use mathlib.Core.Path.{_≡_, refl, ap, _∙_}
 use mathlib.Core.Logic.{dite}
-use mathlib.Core.List.{List, [], _∷_, _++_, map, reverse, reverse-cons}
+use mathlib.Core.List.{List, [], _∷_, _++_, map}
 use native.Mathlib.Decide.{ℕ-discrete}
 use native.Mathlib.Nat.{suc-mul, zero-mul, not-suc-le-zero}
 use native.Mathlib.Omega.{arith}
-use lib.ListN.{length, take, drop, getD, length-reverse, List·getD-append}
-use lib.Seq.{ext-getD, take-add, drop-drop, getD-append-seam}
+use lib.ListN.{length, take, drop, getD}
+use lib.Seq.{take-add, drop-drop}
 use Rattle.lists.specs.Lists.{All, flat}
-use Rattle.rows.specs.Part.{part, part-length, part-get}
+use Rattle.rows.specs.Part.{part}
 use Rattle.configs.specs.Decode.{downTo}
-use Rattle.zeros.specs.Packed.{down-length}
-
--- A PART OF A PART
-pub part-part : (c v b w : ℕ) (xs : List ℕ) → c + v ≤ length xs → b + w ≤ v → part b w (part c v xs) ≡ part (c + b) w xs
-part-part c v b w xs inside within =
-    let outer : length (part c v xs) ≡ v = part-length c v xs inside in
-    let left : length (part b w (part c v xs)) ≡ w = part-length b w (part c v xs) (omega arith) in
-    let right : length (part (c + b) w xs) ≡ w = part-length (c + b) w xs (omega arith) in
-    ext-getD 0 (part b w (part c v xs)) (part (c + b) w xs) (left ∙ sym right)
-    (λ j h.
-    let e : c + (b + j) ≡ c + b + j = omega arith in
-    part-get b w (part c v xs) j 0 (omega arith) ∙ part-get c v xs (b + j) 0 (omega arith) ∙ ap (λ (k : ℕ). getD xs k 0) e ∙ sym (part-get (c + b) w xs j 0 (omega arith)))
 
 -- ROWS OF ONE WIDTH
 -- rows that are the parts of a list, one behind the other, are the list's first places
@@ -41,16 +29,6 @@ rows-flat f w d (x ∷ l) xs h =
 
 -- LAST ELEMENT FIRST
 module _ {A : Type 0} (f : ℕ → A) where
-  -- each at its place, in reverse
-  pub down-get : (d : A) (n k : ℕ) → k < n → getD (reverse (downTo f n)) k d ≡ f k
-  down-get d zero k h = absurd (not-suc-le-zero h)
-  down-get d (suc n) k h = rw (reverse-cons (f n) (downTo f n)) (dite (ℕ-discrete k n)
-      (λ e. rw (e ∙ sym count) (getD-append-seam (reverse (downTo f n)) (f n) [] d ∙ ap f (sym count)))
-      (λ e. List·getD-append (reverse (downTo f n)) (f n ∷ []) d k (omega (arith, count)) ∙ down-get d n k (omega arith)))
-    where
-      count : length (reverse (downTo f n)) ≡ n
-      count = length-reverse (downTo f n) ∙ down-length f n
-
   -- what holds of all of them holds of each,
   pub down-each : (P : A → Type 0) (n k : ℕ) → k < n → All P (downTo f n) → P (f k)
   down-each P zero k h a = absurd (not-suc-le-zero h)

@@ -18,16 +18,6 @@ use Rattle.codes.specs.Codes.{valueOf, Canonical}
 use Rattle.codes.specs.Pairs.{pairEvent, CanonicalPair}
 use Rattle.checked_values.specs.Numbers.{ValueNumber, TypedNumber, PairNumber, HeldNumber}
 
--- YES AND NO
-module _ {P : Type 0} where
-  -- the test of what holds
-  pub yes : P → Tells true P
-  yes h = record { holds = λ e. h; test = λ k. refl }
-
-  -- the test of what does not
-  pub no : (P → ⊥) → Tells false P
-  no h = record { holds = λ e. absurd (true≢false (sym e)); test = λ k. absurd (h k) }
-
 module _ (p : Program) (next : ℕ) where
   -- an event
   pub event-told : (e n : ℕ) → length (p .events) ≡ n → Tells (there n e) (ValueOk p next (vevent e))

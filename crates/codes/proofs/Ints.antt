@@ -1,17 +1,17 @@
--- An int's number and a number's int, as the machine works them out in 64 bits. Assumes nothing.
+-- An int's number, as the machine works it out in 64 bits. Assumes nothing.
 use mathlib.Core.Path.{_≡_, refl, ap}
-use Prim.Native.Nat.{ℕ, suc, _^_, _<_}
+use Prim.Native.Nat.{suc, _^_, _<_}
 use native.Mathlib.Omega.{arith}
 use lib.Dec.{T}
-use lib.IntN.{ℤ, pos, negsuc, _+ℤ_, _-ℤ_, natAbs}
+use lib.IntN.{ℤ, pos, negsuc, _+ℤ_, natAbs}
 use lib.Signed.{mag, nonNeg}
 use mir.Syntax.{w32, w64}
 use mir.Val.{Fits, SFits, toZ, ofZ}
-use mir.Facts.{toZ-ofZ, toZ-pos, sfits-widen}
+use mir.Facts.{toZ-ofZ}
 use borrow.Author.Tests.{le-ltb}
-use Rattle.values.proofs.Ints.{in-range, range-fits, back}
-use Rattle.codes.specs.Codes.{intCode, intOf}
-use Rattle.codes.specs.Laws.{int-code-small, int-in-range}
+use Rattle.values.proofs.Ints.{in-range, back}
+use Rattle.codes.specs.Codes.{intCode}
+use Rattle.codes.specs.Laws.{int-code-small}
 
 -- the number of an int is z + 2147483648
 up : (z : ℤ) → mag z < 2 ^ 31 → z +ℤ pos 2147483648 ≡ pos (intCode z)
@@ -38,24 +38,3 @@ module _ {z : ℤ} (f : SFits w32 z) where
   -- which is not negative and fits 32 bits
   pub sum-cast : (s : ℤ) → s ≡ pos (intCode z) → T (nonNeg s) × Fits w32 (natAbs s)
   sum-cast s e = rw e (tt, record { fits = omega (arith, small) })
-
-module _ {n : ℕ} (f : Fits w32 n) where
-  -- a number of 32 bits, widened
-  wide : toZ w64 n ≡ pos n
-  wide = toZ-pos w64 (omega arith)
-
-  -- its int fits 32 bits
-  int-fits : SFits w32 (intOf n)
-  int-fits = record { sfits = range-fits (intOf n) (int-in-range n (omega arith)) }
-
-  -- the difference fits 64 bits
-  pub less-fits : SFits w64 (toZ w64 n -ℤ pos 2147483648)
-  less-fits = rw wide (sfits-widen tt int-fits)
-
-  -- and, read back, 32
-  pub less-narrow : SFits w32 (toZ w64 (ofZ w64 (toZ w64 n -ℤ pos 2147483648)))
-  less-narrow = rw (wide, toZ-ofZ (sfits-widen {w′ = w64} tt int-fits)) int-fits
-
-  -- where it is the number's int
-  pub less-back : toZ w32 (ofZ w32 (toZ w64 (ofZ w64 (toZ w64 n -ℤ pos 2147483648)))) ≡ intOf n
-  less-back = rw (wide, toZ-ofZ (sfits-widen {w′ = w64} tt int-fits)) (toZ-ofZ int-fits)

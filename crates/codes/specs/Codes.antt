@@ -4,11 +4,12 @@ use mathlib.Core.Path.{_≡_}
 use mathlib.Core.Bool.{Bool, true, cond}
 use mathlib.Core.List.{List, [], _∷_}
 use lib.Dec.{eqb}
-use lib.IntN.{ℤ, pos, negsuc, _-ℤ_}
+use lib.IntN.{ℤ, pos, negsuc}
 use lib.ListN.{getD}
 use Rattle.values.specs.declared.Value.{Value}
 use Rattle.values.specs.declared.Value.the-variants.{Undefined as undefined, Bool as vbool, Int as vint, Event as vevent, Id as vid}
 use Rattle.values.specs.Values.{idOf, inRange}
+use Rattle.values.specs.Words.{intOf}
 
 -- the number of the kind k that holds n
 abbrev pub tagged : ℕ → ℕ → ℕ
@@ -18,10 +19,6 @@ tagged k n = k * 4294967296 + n
 abbrev pub intCode : ℤ → ℕ
 intCode (pos n) = n + 2147483648
 intCode (negsuc n) = 2147483647 - n
-
--- and back
-abbrev pub intOf : ℕ → ℤ
-intOf n = pos n -ℤ pos 2147483648
 
 -- THE NUMBER OF A VALUE
 abbrev pub codeOf : Value → ℕ

@@ -1,17 +1,18 @@
 -- A value's number reads as the value, so two values have one number only if they are one value. Assumes nothing.
-use Prim.Native.Nat.{ℕ, suc, _+_, _-_, _*_, _/_, _%_, _<_}
+use Prim.Native.Nat.{ℕ, _+_, _-_, _*_, _/_, _%_, _<_}
 use mathlib.Core.Path.{_≡_, refl, sym, ap, _∙_}
-use mathlib.Core.Bool.{Bool, true, false, cond}
+use mathlib.Core.Bool.{true, false}
 use native.Mathlib.Omega.{arith}
-use lib.Dec.{eqb, ltb}
+use lib.Dec.{eqb}
 use lib.IntN.{ℤ, pos, negsuc}
-use borrow.Author.Tests.{lt-ltb, le-ltb, ltb-true, ltb-false}
+use borrow.Author.Tests.{lt-ltb, le-ltb, ltb-true}
 use Rattle.values.specs.declared.Value.{Value}
 use Rattle.values.specs.declared.Value.the-variants.{Undefined as undefined, Bool as vbool, Int as vint, Event as vevent, Id as vid}
 use Rattle.values.specs.Values.{inRange}
+use Rattle.values.specs.Words.{intOf, int-in-range}
 use Rattle.lists.specs.Facts.{All-getD}
 use Rattle.lists.specs.Tells.{Tells, form, equal}
-use Rattle.codes.specs.Codes.{tagged, intCode, intOf, codeOf, kinds, valueOf, Holdable, Canonical, canonical}
+use Rattle.codes.specs.Codes.{tagged, intCode, codeOf, kinds, valueOf, Holdable, Canonical, canonical}
 
 -- a number's kind
 tag-of : (k n : ℕ) → n < 4294967296 → tagged k n / 4294967296 ≡ k
@@ -32,14 +33,6 @@ int-back (pos n) h = rw (le-ltb (n + 2147483648) 2147483648 (omega arith)) (ap p
 int-back (negsuc n) h =
     let k = ltb-true n 2147483648 h in
     rw (lt-ltb (2147483647 - n) 2147483648 (omega arith)) (ap negsuc (omega arith))
-
--- every number below 2 ^ 32 reads as an int of the range
-pub int-in-range : (n : ℕ) → n < 4294967296 → inRange (intOf n) ≡ true
-int-in-range n h = go (ltb n 2147483648) refl
-  where
-    go : (t : Bool) → ltb n 2147483648 ≡ t → inRange (cond t (negsuc (2147483648 - suc n)) (pos (n - 2147483648))) ≡ true
-    go true e = lt-ltb (2147483648 - suc n) 2147483648 (omega arith)
-    go false e = let k = ltb-false n 2147483648 e in lt-ltb (n - 2147483648) 2147483648 (omega arith)
 
 -- A VALUE'S NUMBER READS AS THE VALUE
 pub value-code : (v : Value) → Holdable v → valueOf (codeOf v) ≡ v

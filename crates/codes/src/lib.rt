@@ -1,9 +1,10 @@
 // Values as numbers, for arrays. What the numbers mean stands in specs/Codes.antt.
 ghost use mathlib.Core.Path.{_≡_};
 ghost use mathlib.Core.Bool.{cond};
-ghost use Rattle.codes.specs.Codes.{tagged, intCode, intOf, codeOf, valueOf, canonical};
+ghost use Rattle.codes.specs.Codes.{tagged, intCode, codeOf, valueOf, canonical};
 use values::Live;
 use values::Value;
+use values::int_of;
 
 // The number of the kind k that holds n.
 fn tagged(k: u8, n: u32) -> u64
@@ -24,13 +25,6 @@ fn int_code(z: i32) -> u32
     ensures { λ r. ⌜ r ≡ intCode z ⌝ }
 {
     (z as i64 + 2147483648) as u32
-}
-
-// And back.
-fn int_of(n: u32) -> i32
-    ensures { λ r. ⌜ r ≡ intOf n ⌝ }
-{
-    (n as i64 - 2147483648) as i32
 }
 
 // The number of a value.

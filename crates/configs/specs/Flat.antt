@@ -1,15 +1,11 @@
 -- The engine's form of a configuration: one flat list for all 32 rooms each, row i of it room i's; the configuration that it is, and what a change of one
 -- room's rows does to what it reads as.
-use Prim.Native.Nat.{ℕ, zero, suc, _+_, _*_, _<_}
-use mathlib.Core.Path.{_≡_, refl, ap, sym, _∙_}
+use Prim.Native.Nat.{ℕ, _*_, _<_}
+use mathlib.Core.Path.{_≡_, ap, sym, _∙_}
 use mathlib.Core.Option.{Option, none}
-use mathlib.Core.List.{List, map}
-use mathlib.Core.Logic.{dite}
-use native.Mathlib.Omega.{arith}
-use native.Mathlib.Decide.{ℕ-discrete}
-use lib.ListN.{length, getD, set, length-set}
-use lib.Seq.{ext-getD, getD-set-same, getD-set-other}
-use Rattle.rows.specs.Seek.{table, table-length, table-at}
+use mathlib.Core.List.{List}
+use lib.ListN.{length, getD, set}
+use Rattle.rows.specs.Seek.{table, table-at, map-table, table-set}
 use Rattle.rows.specs.Part.{part}
 use Rattle.programs.specs.Program.{Program}
 use Rattle.machines.specs.Config.{Machine, Config}
@@ -106,21 +102,6 @@ room-path a b c d e f g h j k l = λ i. record {
   waiting = k i;
   pairs = l i;
 }
-
--- a table's image is a table
-map-table : {A B : Type 0} (g : A → B) (f : ℕ → A) (k n : ℕ) → map g (table f k n) ≡ table (λ j. g (f j)) k n
-unfolding table
-map-table g f k zero = refl
-map-table g f k (suc n) = rw (map-table g f (k + 1) n)
-
--- two functions that differ at i at most have tables that differ at i at most
-pub table-set : {A : Type 0} (d : A) (f g : ℕ → A) (n i : ℕ) → i < n → ((j : ℕ) → j < n → (j ≡ i → ⊥) → g j ≡ f j) → table g 0 n ≡ set (table f 0 n) i (g i)
-table-set d f g n i h o =
-    ext-getD d (table g 0 n) (set (table f 0 n) i (g i)) (table-length g 0 n ∙ sym (length-set (table f 0 n) i (g i) ∙ table-length f 0 n))
-    (λ j q. let hj : j < n = omega (arith, table-length g 0 n) in
-    dite (ℕ-discrete j i)
-    (λ e. rw e (table-at g d n i h ∙ sym (getD-set-same (table f 0 n) i (g i) d (omega (arith, table-length f 0 n)))))
-    (λ e. table-at g d n j hj ∙ o j hj e ∙ sym (table-at f d n j hj) ∙ sym (getD-set-other (table f 0 n) i j (g i) d e)))
 
 module _ (p : Program) where
   -- the rooms as they read

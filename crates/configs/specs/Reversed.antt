@@ -1,7 +1,9 @@
 -- Lists that are written in reverse, element by element or as rows of one width, and read back from the last place on.
 use Prim.Native.Nat.{ℕ, zero, suc, _+_, _-_, _*_, _<_}
-use mathlib.Core.Path.{_≡_, refl, ap, _∙_}
-use mathlib.Core.List.{List, [], _∷_, _++_, map, reverse, reverseAux, append-assoc, reverse-cons}
+use mathlib.Core.Path.{_≡_, refl, ap, sym, _∙_}
+use mathlib.Core.Logic.{dite}
+use native.Mathlib.Decide.{ℕ-discrete}
+use mathlib.Core.List.{List, [], _∷_, _++_, reverse, append-assoc, reverse-cons}
 use native.Mathlib.Nat.{suc-mul, zero-mul, not-suc-le-zero}
 use native.Mathlib.Omega.{arith}
 use lib.ListN.{length, getD, replicate, length-reverse, List·getD-append}
@@ -9,21 +11,26 @@ use lib.Seq.{take-at, drop-append-add, getD-append-seam}
 use Rattle.rows.specs.Pad.{pad}
 use Rattle.rows.specs.Part.{part}
 use Rattle.lists.specs.Lists.{All, flat}
-use Rattle.lists.specs.Facts.{All-append}
 use Rattle.configs.specs.Decode.{downTo}
 
+-- WHAT IS READ FROM THE LAST PLACE ON
+module _ {A : Type 0} (f : ℕ → A) where
+  -- has as many elements as are read,
+  pub downTo-length : (n : ℕ) → length (downTo f n) ≡ n
+  downTo-length zero = refl
+  downTo-length (suc n) = ap suc (downTo-length n)
+
+  -- and in reverse has each at its place
+  pub downTo-at : (d : A) (n k : ℕ) → k < n → getD (reverse (downTo f n)) k d ≡ f k
+  downTo-at d zero k h = absurd (not-suc-le-zero h)
+  downTo-at d (suc n) k h = rw (reverse-cons (f n) (downTo f n)) (dite (ℕ-discrete k n)
+      (λ e. rw (e ∙ sym count) (getD-append-seam (reverse (downTo f n)) (f n) [] d ∙ ap f (sym count)))
+      (λ e. List·getD-append (reverse (downTo f n)) (f n ∷ []) d k (omega (arith, count)) ∙ downTo-at d n k (omega arith)))
+    where
+      count : length (reverse (downTo f n)) ≡ n
+      count = length-reverse (downTo f n) ∙ downTo-length n
+
 module _ {A : Type 0} where
-  -- what holds of every element holds of the one at i
-  pub All-at : (P : A → Type 0) (d : A) (l : List A) (i : ℕ) → i < length l → All P l → P (getD l i d)
-  All-at P d [] i b h = absurd (not-suc-le-zero b)
-  All-at P d (x ∷ l) zero b h = h .0
-  All-at P d (x ∷ l) (suc i) b h = All-at P d l i (omega arith) (h .1)
-
-  -- and of every element in reverse
-  pub All-reverse : (P : A → Type 0) (l : List A) → All P l → All P (reverse l)
-  All-reverse P [] h = tt
-  All-reverse P (x ∷ l) h = rw (reverse-cons x l) (All-append P (reverse l) (x ∷ []) (All-reverse P l (h .1)) (h .0, tt))
-
   -- a function that gives the places of the reversed list gives the list, from the last place on
   pub downTo-reverse : (d : A) (f : ℕ → A) (l : List A) → ((k : ℕ) → k < length l → f k ≡ getD (reverse l) k d) → downTo f (length l) ≡ l
   downTo-reverse d f [] h = refl
@@ -35,14 +42,6 @@ module _ {A : Type 0} where
         downTo-reverse d f l (λ k b. h k (omega arith)
             ∙ ap (λ (r : List A). getD r k d) (reverse-cons x l) ∙ List·getD-append (reverse l) (x ∷ []) d k (omega (arith, length-reverse l))),
       )
-
-  -- a list's image in reverse
-  pub map-reverse : {B : Type 0} (f : A → B) (l : List A) → reverse (map f l) ≡ map f (reverse l)
-  map-reverse f l = go l []
-    where
-      go : (l r : List A) → reverseAux (map f l) (map f r) ≡ map f (reverseAux l r)
-      go [] r = refl
-      go (x ∷ l) r = go l (x ∷ r)
 
 module _ {A B : Type 0} (f : A → List B) (w : ℕ) (d : A) where
   -- row k of rows of one width, one behind the other

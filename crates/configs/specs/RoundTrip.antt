@@ -12,7 +12,7 @@ use borrow.Author.Tests.{ne-eqb}
 use Rattle.rows.specs.Pad.{pad, pad-length, pad-take, pad-get}
 use Rattle.rows.specs.Part.{part}
 use Rattle.lists.specs.Lists.{All, flat}
-use Rattle.lists.specs.Facts.{All-map}
+use Rattle.lists.specs.Facts.{All-map, All-at}
 use Rattle.values.specs.declared.Value.{Value}
 use Rattle.values.specs.declared.Value.the-variants.{Undefined as undefined, Bool as vbool, Int as vint, Event as vevent, Id as vid}
 use Rattle.values.specs.Values.{idOf}
@@ -27,12 +27,8 @@ use Rattle.codes.specs.Pairs.{pairCode, pair-event, pair-value}
 use Rattle.configs.specs.declared.Config.{Config as Held}
 use Rattle.configs.specs.Decode.{downTo, replyOf, pairOf, pendingOf, frameAt, machineOf, roomOf, configOf}
 use Rattle.configs.specs.Encode.{replyCode, pairNumber, heldCode, mapCodes, taken, roomCode, written, Zeroed}
-use Rattle.configs.specs.Reversed.{All-at, All-reverse, downTo-reverse, map-reverse, padded-part}
-
--- what is read back of every element is read back of the list
-map-back : {A B : Type 0} (f : B → A) (g : A → B) (l : List A) → All (λ x. f (g x) ≡ x) l → map f (map g l) ≡ l
-map-back f g [] h = refl
-map-back f g (x ∷ l) h = rw (h .0, map-back f g l (h .1))
+use Rattle.lists.specs.Keep.{map-back, All-reverse, map-reverse}
+use Rattle.configs.specs.Reversed.{downTo-reverse, padded-part}
 
 -- a frame that stands in no stack: the default
 abbrev noFrame : Frame

@@ -28,8 +28,8 @@ use Rattle.configs.specs.Flat.{Flat, Sized, flat, roomAt, room-path, held}
 use Rattle.parts.specs.Parts.{Any, tidied}
 use Rattle.engine.specs.declared.Outcome.the-variants.{Took, Refused}
 use Rattle.engine.specs.Engine.{Stands, Changed, Performed}
-use Rattle.engine.specs.Holding.{RowBecomes}
-use Rattle.remaining.specs.Held.{changed, untouched, touched, remains-changed}
+use Rattle.engine.specs.Holding.{RowBecomes, untouched, touched}
+use Rattle.remaining.specs.Held.{changed, remains-changed}
 use Rattle.stored.specs.Stored.{place-own, place-there, variables-count, variables-16, variable-set}
 use Rattle.rooms.specs.Places.{First, fill-set, fill-none}
 use Rattle.rooms.specs.Standing.{Lives, room-is, next-is, free-here, free-before, change-written, local-written}

@@ -23,9 +23,9 @@ use Rattle.configs.specs.Encode.{replyCode, free}
 use Rattle.configs.specs.Flat.{Flat, Sized, flat, roomAt, room-path}
 use Rattle.parts.specs.Parts.{Said, tidied}
 use Rattle.engine.specs.Engine.{Changed}
-use Rattle.engine.specs.Holding.{RowHeld, RowBecomes}
+use Rattle.engine.specs.Holding.{RowHeld, RowBecomes, untouched, touched, touched-place}
 use Rattle.remaining.specs.Remaining.{Placing, standing}
-use Rattle.remaining.specs.Held.{OnlyRoom, changed, untouched, touched, touched-place, row-taken}
+use Rattle.remaining.specs.Held.{OnlyRoom, changed, row-taken}
 use Rattle.beginnings.specs.Inits.{Written}
 
 -- what is asked: the room is one, and its row has room for the parts of the entry statement

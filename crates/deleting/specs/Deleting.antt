@@ -14,7 +14,7 @@ use Rattle.rules.specs.Act.{deletes}
 use Rattle.rules.specs.Step as definition
 use Rattle.configs.specs.Encode.{free, written}
 use Rattle.configs.specs.Flat.{Flat, Sized, flat}
-use Rattle.laying.specs.Laying.{Wide, Placed, laidIn, laid-placed}
+use Rattle.laying.specs.Laying.{Wide, Placed, laid-placed}
 use Rattle.engine.specs.declared.Outcome.the-variants.{Took}
 use Rattle.engine.specs.Engine.{Performed}
 use Rattle.rooms.specs.Places.{gone-set}

@@ -8,7 +8,7 @@ use native.Mathlib.Omega.{arith}
 use lib.ListN.{length, take, getD, set, length-map}
 use lib.Seq.{getD-set-same}
 use Rattle.lists.specs.Lists.{All, There}
-use Rattle.lists.specs.Facts.{All-map}
+use Rattle.lists.specs.Facts.{All-map, All-at}
 use Rattle.rows.specs.Pad.{pad, pad-length, pad-take, without}
 use Rattle.rows.specs.Part.{part, put-length, put-out}
 use Rattle.values.specs.declared.Value.the-variants.{Event as vevent}
@@ -25,7 +25,6 @@ use Rattle.codes.specs.Codes.{codeOf}
 use Rattle.codes.specs.Pairs.{pairEvent, pairValue, CanonicalPair, pair-event, pair-value, pair-rest, pair-canonical}
 use Rattle.configs.specs.Decode.{pairOf}
 use Rattle.configs.specs.Encode.{pairNumber, taken}
-use Rattle.configs.specs.Reversed.{All-at}
 use Rattle.configs.specs.RoundTrip.{holdable, machine-back}
 use Rattle.configs.specs.Flat.{Flat, flat, room-path}
 use Rattle.maps.specs.Maps.{Tables, Asked, mapAt}
@@ -35,9 +34,9 @@ use Rattle.parts.specs.Parts.{Said, tidied}
 use Rattle.engine.specs.declared.Outcome.{Outcome}
 use Rattle.engine.specs.declared.Outcome.the-variants.{Took, Refused}
 use Rattle.engine.specs.Engine.{Changed, Dequeued}
-use Rattle.engine.specs.Holding.{Elsewhere, RowHeld, RowBecomes}
+use Rattle.engine.specs.Holding.{Elsewhere, RowHeld, RowBecomes, untouched, touched, touched-place, touched-then}
 use Rattle.remaining.specs.Remaining.{Placing}
-use Rattle.remaining.specs.Held.{changed, untouched, touched, touched-place, touched-then, row-taken, row-there, tidy-awaits}
+use Rattle.remaining.specs.Held.{changed, row-taken, row-there, tidy-awaits}
 use Rattle.stored.specs.Stored.{told-set}
 use Rattle.stacks.specs.Stacks.{Deep, top-state, top-map}
 use Rattle.pending.specs.Pending.{Bare, Here}

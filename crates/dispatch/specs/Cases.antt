@@ -1,27 +1,25 @@
 -- Which case of the definitions' act a machine is in, by the numbers that stand in its room: "In a step: 20, 19, then 13, then left to right through the statement".
-use Prim.Native.Nat.{ℕ, zero, suc, _+_, _-_, _*_, _≤_, _<_}
+use Prim.Native.Nat.{ℕ, _+_, _-_, _*_, _≤_, _<_}
 use mathlib.Core.Path.{_≡_, refl, ap, sym, _∙_}
-use mathlib.Core.Option.{Option, none, some}
+use mathlib.Core.Option.{Option, none}
 use mathlib.Core.List.{List, [], _∷_, _++_, reverse, reverse-cons}
 use native.Mathlib.Omega.{arith}
 use lib.ListN.{length, getD, length-reverse}
 use lib.Seq.{getD-append-add}
+use Rattle.remaining.specs.Held.{count-is}
 use Rattle.lists.specs.Lists.{onOpt}
 use Rattle.rows.specs.Pad.{pad-get}
 use Rattle.rows.specs.Part.{part-get}
 use Rattle.answers.specs.declared.Answer.the-variants.{StackEmpty, UnableToStep}
 use Rattle.programs.specs.Program.{Program, stmtAt}
 use Rattle.runs.specs.Outcome.{refused}
-use Rattle.machines.specs.Config.{Frame, Pending, idle, raising, returning, Machine, Config, Choice}
+use Rattle.machines.specs.Config.{Frame, idle, Machine, Config}
 use Rattle.machines.specs.Rooms.{find}
-use Rattle.rules.specs.Act.{Act, refuses, dequeues, does, pends, act}
+use Rattle.rules.specs.Act.{refuses, dequeues, does, pends, act}
 use Rattle.rules.specs.Step as definition
-use Rattle.soundness.specs.Sound.{Sound}
-use Rattle.kept.specs.KeptRow.{row-fits}
 use Rattle.configs.specs.declared.Room.{Room}
-use Rattle.configs.specs.Encode.{heldCode, taken}
-use Rattle.configs.specs.Flat.{Flat, roomAt}
-use Rattle.engine.specs.declared.Outcome.{Outcome}
+use Rattle.configs.specs.Encode.{heldCode}
+use Rattle.configs.specs.Flat.{Flat}
 use Rattle.engine.specs.declared.Outcome.the-variants.{Refused}
 use Rattle.engine.specs.Engine.{Performed}
 use Rattle.rooms.specs.Standing.{Lives, lives-found, lives-taken}
@@ -43,12 +41,9 @@ module _ (p : Program) (f : Flat) (c : Config) (k : ℕ) (m : Machine) (a : Live
   unfolding definition.step
   step-act = ap (λ (o : Option Machine). onOpt o (refused UnableToStep) (λ n. definition.perform p c (m .this) n (act p (m .this) (n .loc) w))) (lives-found p f c k m a)
 
-  -- how many frames and parts it has, and what is pending
+  -- how many frames it has, and what is pending
   pub depth-is : getD (f .depths) k 0 ≡ length (m .loc .stack)
   depth-is = ap (λ (r : Room). r .depth) (lives-taken p f c k m a)
-
-  pub count-is : getD (f .counts) k 0 ≡ length (m .loc .row)
-  count-is = ap (λ (r : Room). r .count) (lives-taken p f c k m a)
 
   pub held-is : getD (f .held) k 0 ≡ heldCode (m .loc .pending)
   held-is = ap (λ (r : Room). r .held) (lives-taken p f c k m a)
@@ -85,11 +80,11 @@ module _ (p : Program) (f : Flat) (c : Config) (k : ℕ) (m : Machine) (a : Live
     case-head fits h = go (m .loc .row) refl
       where
         go : (r : List ℕ) → m .loc .row ≡ r → (s : ℕ) × ((r : List ℕ) × Headed s r)
-        go [] q = absurd (omega (arith, count-is ∙ ap length q))
+        go [] q = absurd (omega (arith, count-is f k m (lives-taken p f c k m a) ∙ ap length q))
         go (s ∷ r) q = (s, (r, record { row = q; place = place; acts = rw (t .stack, q) }))
           where
             n : getD (f .counts) k 0 - 1 ≡ length r
-            n = omega (arith, count-is ∙ ap length q)
+            n = omega (arith, count-is f k m (lives-taken p f c k m a) ∙ ap length q)
 
             short : length r < 33
             short = omega (arith, fits, ap length q)
@@ -105,7 +100,7 @@ module _ (p : Program) (f : Flat) (c : Config) (k : ℕ) (m : Machine) (a : Live
       where
         go : (r : List ℕ) → m .loc .row ≡ r → r ≡ []
         go [] q = refl
-        go (s ∷ r) q = absurd (omega (arith, count-is ∙ ap length q))
+        go (s ∷ r) q = absurd (omega (arith, count-is f k m (lives-taken p f c k m a) ∙ ap length q))
 
     pub case-pends : m .loc .row ≡ [] → act p (m .this) (m .loc) w ≡ pends p (m .this) (m .loc) w (x .state) (x .map) γ (m .loc .pending)
     unfolding act

@@ -1,16 +1,15 @@
 -- Laws of what `eval` gives, one for each form of an expression: from what it gives of the parts. Assumes nothing.
-use Prim.Native.Nat.{ℕ, zero, suc, _+_, _*_, _/_, _%_, _^_, _≤_, _<_}
+use Prim.Native.Nat.{ℕ, _+_, _*_, _/_, _%_, _^_, _≤_, _<_}
 use mathlib.Core.Path.{_≡_, refl, sym, ap, _∙_}
 use mathlib.Core.Bool.{Bool, true, false, not, cond, _&&_, _||_}
 use mathlib.Core.List.{List}
 use native.Mathlib.Omega.{arith}
 use native.Mathlib.Nat.{div-one, div-le-self, zero-add, add-zero}
-use borrow.Author.Tests.{ne-eqb}
 use lib.Dec.{eqb}
 use lib.IntN.{ℤ, negℤ, _+ℤ_, _-ℤ_}
 use lib.ListN.{getD}
 use lib.Pow.{shr-shr}
-use Rattle.lists.specs.Down.{below, downward, below-is}
+use Rattle.lists.specs.Down.{below, downward, below-is, below-other}
 use Rattle.values.specs.declared.Value.{Value}
 use Rattle.values.specs.declared.Value.the-variants.{Undefined as undefined, Bool as vbool, Int as vint, Event as vevent, Id as vid}
 use Rattle.values.specs.declared.Unary.{Unary}
@@ -29,13 +28,6 @@ use Rattle.codes.specs.Laws.{value-code, code-small, value-holdable}
 use Rattle.evaluation.specs.Evaluated.{storeIn, REST, packed, Readable}
 
 -- TREES
--- of a part that is not lower there is no answer but the other
-module _ {A : Type 0} (other : A) (work : (ℕ → A) → ℕ → A) where
-  pub below-other : (n i : ℕ) → n ≤ i → below other work n i ≡ other
-  unfolding below
-  below-other zero i h = refl
-  below-other (suc n) i h = rw (ne-eqb i n (omega arith)) (below-other n i (omega arith))
-
 module _ (p : Program) (e : ℕ) where
   -- the tree of part a of expression e
   abbrev pub partOf : ℕ → Tree

@@ -11,6 +11,7 @@ use borrow.Author.Tests.{ltb-true, ltb-false}
 use lib.Dec.{eqb, ltb}
 use lib.ListN.{length, getD}
 use lib.Pow.{shr-shr}
+use Rattle.soundness.specs.SoundFounded.{served-there}
 use Rattle.lists.specs.Lists.{any, There}
 use Rattle.lists.specs.Down.{below, downward, below-is}
 use Rattle.lists.specs.Facts.{eqb-same, or-left, or-right, and-both, at-any, has, any-has}
@@ -166,8 +167,12 @@ module _ (p : Program) (k : ℕ) where
     below-own (suc m) n h = step-own n (λ a l. below-own m a (omega arith))
 
     -- THE EXPRESSIONS OF A STATEMENT that serves kind k name only variables of kind k
-    pub own-tree : (s e : ℕ) → serves p k s ≡ true → has e (exprsOf (stmtAt p s)) → Names Own (tree p e)
-    own-tree s e v h = below-own (suc e) e (omega arith) (statement-serves s e v h)
+    held-own : (s e : ℕ) → serves p k s ≡ true → has e (exprsOf (stmtAt p s)) → Names Own (tree p e)
+    held-own s e v h = below-own (suc e) e (omega arith) (statement-serves s e v h)
+
+  -- and a kind that a statement serves is there
+  pub own-tree : Sound p → (s e : ℕ) → serves p k s ≡ true → has e (exprsOf (stmtAt p s)) → Names Own (tree p e)
+  own-tree sound s e v = held-own sound (served-there p sound k s v) s e v
 
 -- THE JOIN: of an expression whose variables the arrays hold as the machine has them, `eval` gives the value of the definition. Its first star is number
 -- j of the statement's where the j lowest of the choice's bits w are taken.

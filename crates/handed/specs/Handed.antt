@@ -1,15 +1,12 @@
 -- What is handed in: a program in tables and a configuration in rooms. Document 01, 20: "the configuration handed in is not one, or the program breaks 3 to 9,
 -- has a void variable or a list not ascending". And the step of what is handed in.
 use Prim.Native.Nat.{ℕ}
-use mathlib.Core.Path.{_≡_}
 use mathlib.Core.Bool.{Bool, cond, _&&_}
 use Rattle.lists.specs.Tells.{Tells, both}
 use Rattle.answers.specs.declared.Answer.{Answer}
 use Rattle.answers.specs.declared.Answer.the-variants.{NotAccepted}
 use Rattle.values.specs.declared.Live.{Live}
 use Rattle.runs.specs.Outcome.{took, refused}
-use Rattle.machines.specs.Config.{Choice}
-use Rattle.rules.specs.declared.Rule.{Rule}
 use Rattle.rules.specs.Step as definition
 use Rattle.soundness.specs.Sound.{Sound, sound, sound-is}
 use Rattle.acceptance.specs.Accepted.{Accepted}

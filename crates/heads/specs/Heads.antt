@@ -2,14 +2,14 @@
 use Prim.Native.Nat.{ℕ, _+_, _-_, _*_, _≤_}
 use mathlib.Core.Path.{_≡_, refl, ap, sym, _∙_, subst}
 use mathlib.Core.Bool.{Bool, true, false, true≢false}
-use mathlib.Core.List.{List, _∷_}
+use mathlib.Core.List.{List}
 use native.Mathlib.Omega.{arith}
 use lib.ListN.{length, getD}
 use Rattle.lists.specs.Lists.{at}
 use Rattle.programs.specs.Program.{Program, Stmt, skip, new, delete, send, stmtAt}
 use Rattle.machines.specs.Config.{Machine}
 use Rattle.rules.specs.declared.Rule.the-variants.{DELETE}
-use Rattle.rules.specs.Act.{Act, does}
+use Rattle.rules.specs.Act.{does}
 use Rattle.rules.specs.Step as definition
 use Rattle.tables.specs.declared.Head.{Head}
 use Rattle.tables.specs.declared.Head.the-variants.{Skip, Assign, New, Delete, Send, Raise, Leave, Return, Assert, Seq, If, While}
@@ -24,7 +24,6 @@ use Rattle.engine.specs.Engine.{Performed}
 use Rattle.laying.specs.Laying.{Placed}
 use Rattle.rooms.specs.Standing.{lives-taken, lives-stands, performed-own}
 use Rattle.remaining.specs.Held.{row-33}
-use Rattle.statements.specs.Heading.{Heading}
 use Rattle.owning.specs.Owning.{OwnAsked, LeftBy, Left}
 use Rattle.deleting.specs.Deleting.{performed-delete}
 use Rattle.sending.specs.Asked.{SendAsked}

@@ -1,6 +1,5 @@
 -- what the two tables hold
 pub mod Index
 -- laws of making them
-pub mod Zeros
 pub mod Saying
 pub mod Placing

@@ -1,6 +1,6 @@
 -- ACCEPTANCE IS KEPT BY EVERY STEP, and the start configuration is accepted.
 use Prim.Native.Nat.{ℕ, zero, suc, _≤_, _<_}
-use mathlib.Core.Path.{_≡_, refl, sym, ap, _∙_, subst}
+use mathlib.Core.Path.{_≡_, refl, ap, _∙_, subst}
 use mathlib.Core.Option.{Option, none, some, Option·map, Option·none-ne-some, Option·some-injective}
 use mathlib.Core.Bool.{Bool, true, false, cond, _||_}
 use mathlib.Core.List.{List, [], _∷_, _++_, map}
@@ -8,6 +8,8 @@ use native.Mathlib.Omega.{arith}
 use borrow.Author.Tests.{eqb-true, ne-eqb, ltb-true}
 use lib.Dec.{ltb}
 use lib.ListN.{length, length-append, replicate, length-map}
+use mathlib.Core.Logic.{dite}
+use native.Mathlib.Decide.{ℕ-discrete}
 use Rattle.lists.specs.Lists.{onOpt, All}
 use Rattle.lists.specs.Facts.{All-append, or-none}
 use Rattle.answers.specs.declared.Answer.the-variants.{NoRoom, QueueFull, SendToNotLive, UnableToStep, WrongType}
@@ -20,7 +22,7 @@ use Rattle.machines.specs.Locals.{blank}
 use Rattle.machines.specs.Rooms.{Rooms, isAt, find, setLocal, setQueue, on, each, gone, fill, born, withLocal, withQueue}
 use Rattle.machines.specs.Queue.{same, waits, put, pull}
 use Rattle.machines.specs.Equal.{same-sym}
-use Rattle.machines.specs.RoomLaws.{Keeps, keeps-local, keeps-queue, each-find}
+use Rattle.machines.specs.RoomLaws.{Keeps, keeps-local, keeps-queue, each-find, find-gone, find-gone-other, find-fill}
 use Rattle.rules.specs.declared.Rule.{Rule}
 use Rattle.rules.specs.Act.{Act, alone, creates, deletes, sends, dequeues, refuses, act}
 use Rattle.rules.specs.Step.{Outcome, taken, takes, perform, step, startConfig}
@@ -89,18 +91,9 @@ distinct-each g k [] h = tt
 distinct-each g k (none ∷ rs) h = distinct-each g k rs h
 distinct-each g k (some m ∷ rs) h = (ap (λ n. find n (each g rs)) (k m) ∙ each-find g k (m .this) rs ∙ rw (h .0), distinct-each g k rs (h .1))
 
-gone-none : (i j : ℕ) (rs : Rooms) → find j rs ≡ none → find j (map (gone i) rs) ≡ none
-gone-none i j [] h = refl
-gone-none i j (none ∷ rs) h = gone-none i j rs h
-gone-none i j (some m ∷ rs) h = at (isAt j m) refl h (gone-none i j rs)
-  where
-    kept : (b : Bool) → find j (map (gone i) rs) ≡ none → isAt j m ≡ false → find j (cond b none (some m) ∷ map (gone i) rs) ≡ none
-    kept true e f = e
-    kept false e f = rw f e
-
-    at : (b : Bool) → isAt j m ≡ b → cond b (some m) (find j rs) ≡ none → (find j rs ≡ none → find j (map (gone i) rs) ≡ none) → find j (gone i (some m) ∷ map (gone i) rs) ≡ none
-    at true f e ih = absurd (Option·none-ne-some _ (sym e))
-    at false f e ih = kept (isAt i m) (ih e) f
+-- a machine that is not found is not found after a deletion
+still-none : (i j : ℕ) (rs : Rooms) → find j rs ≡ none → find j (map (gone i) rs) ≡ none
+still-none i j rs h = dite (ℕ-discrete i j) (λ e. rw e (find-gone j rs)) (λ e. find-gone-other j i rs e ∙ h)
 
 distinct-gone : (i : ℕ) (rs : Rooms) → Distinct rs → Distinct (map (gone i) rs)
 distinct-gone i [] h = tt
@@ -109,22 +102,9 @@ distinct-gone i (some m ∷ rs) h = go (isAt i m) (distinct-gone i rs (h .1))
   where
     go : (b : Bool) → Distinct (map (gone i) rs) → Distinct (cond b none (some m) ∷ map (gone i) rs)
     go true d = d
-    go false d = (gone-none i (m .this) rs (h .0), d)
+    go false d = (still-none i (m .this) rs (h .0), d)
 
 -- a new machine in the lowest free room
-fill-none : (j : ℕ) (m : Machine) (rs ts : Rooms) → isAt j m ≡ false → fill m rs ≡ some ts → find j rs ≡ none → find j ts ≡ none
-fill-none j m [] ts d e h = absurd (Option·none-ne-some _ e)
-fill-none j m (none ∷ rs) ts d e h = rw (← Option·some-injective _ _ e, d) h
-fill-none j m (some n ∷ rs) ts d e h = go (fill m rs) refl (fill-none j m rs) e
-  where
-    at : (b : Bool) (us : Rooms) → cond b (some n) (find j rs) ≡ none → (find j rs ≡ none → find j us ≡ none) → cond b (some n) (find j us) ≡ none
-    at true us h f = absurd (Option·none-ne-some _ (sym h))
-    at false us h f = f h
-
-    go : (o : Option Rooms) → fill m rs ≡ o → ((us : Rooms) → isAt j m ≡ false → fill m rs ≡ some us → find j rs ≡ none → find j us ≡ none) → Option·map (λ us. some n ∷ us) o ≡ some ts → find j ts ≡ none
-    go none q ih e = absurd (Option·none-ne-some _ e)
-    go (some us) q ih e = rw (← Option·some-injective _ _ e) (at (isAt j n) us h (ih us d q))
-
 module _ (P : Option Machine → Type 0) where
   fill-all : (m : Machine) (rs ts : Rooms) → P (some m) → fill m rs ≡ some ts → All P rs → All P ts
   fill-all m [] ts o e h = absurd (Option·none-ne-some _ e)
@@ -166,7 +146,7 @@ distinct-fill next m (some n ∷ rs) ts t a e h = go (fill m rs) refl (λ us q. 
   where
     go : (x : Option Rooms) → fill m rs ≡ x → ((us : Rooms) → fill m rs ≡ some us → Distinct us) → Option·map (λ us. some n ∷ us) x ≡ some ts → Distinct ts
     go none q ih e = absurd (Option·none-ne-some _ e)
-    go (some us) q ih e = rw (← Option·some-injective _ _ e) (fill-none (n .this) m rs us (ne-eqb (m .this) (n .this) (λ z. omega (arith, a .0))) q (h .0), ih us q)
+    go (some us) q ih e = rw (← Option·some-injective _ _ e) (find-fill (n .this) m rs us (λ z. omega (arith, a .0)) q ∙ h .0, ih us q)
 
 module _ (p : Program) (next : ℕ) where
   -- every machine that g does not change stays, and what it makes of machine i is accepted

@@ -71,6 +71,12 @@ module _ {A : Type 0} where
   All-getD P d (x ∷ l) zero h k = k .0
   All-getD P d (x ∷ l) (suc i) h k = All-getD P d l i h (k .1)
 
+  -- what holds of every element holds of the one at place i
+  pub All-at : (P : A → Type 0) (d : A) (l : List A) (i : ℕ) → i < length l → All P l → P (getD l i d)
+  All-at P d [] i b h = absurd (omega arith)
+  All-at P d (x ∷ l) zero b h = h .0
+  All-at P d (x ∷ l) (suc i) b h = All-at P d l i (omega arith) (h .1)
+
   pub any-mono : (f g : A → Bool) (l : List A) → ((x : A) → f x ≡ true → g x ≡ true) → any f l ≡ true → any g l ≡ true
   any-mono f g [] h e = e
   any-mono f g (x ∷ l) h e = go (or-cases (f x) (any f l) e) (any-mono f g l h)
@@ -79,10 +85,21 @@ module _ {A : Type 0} where
       go (inl a) k = or-left (g x) (any g l) (h x a)
       go (inr b) k = or-right (g x) (any g l) (k b)
 
-  any-getD : (f : A → Bool) (d : A) (l : List A) (i : ℕ) → i < length l → f (getD l i d) ≡ true → any f l ≡ true
+  -- an element that passes
+  pub any-getD : (f : A → Bool) (d : A) (l : List A) (i : ℕ) → i < length l → f (getD l i d) ≡ true → any f l ≡ true
   any-getD f d [] i h e = absurd (omega arith)
   any-getD f d (x ∷ l) zero h e = or-left (f x) (any f l) e
   any-getD f d (x ∷ l) (suc i) h e = or-right (f x) (any f l) (any-getD f d l i (omega arith) e)
+
+  -- one more at the end
+  pub any-last : (f : A → Bool) (l : List A) (x : A) → any f (l ++ (x ∷ [])) ≡ f x || any f l
+  any-last f [] x = refl
+  any-last f (y ∷ l) x = rw (any-last f l x) (swap (f y) (f x))
+    where
+      swap : (a b : Bool) → a || (b || any f l) ≡ b || (a || any f l)
+      swap true true = refl
+      swap true false = refl
+      swap false b = refl
 
   -- a test that number n passes, some element passes
   pub any-at : (f : A → Bool) (d : A) (l : List A) (n : ℕ) → 1 ≤ n → n ≤ length l → f (at d l n) ≡ true → any f l ≡ true

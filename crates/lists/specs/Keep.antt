@@ -1,11 +1,12 @@
--- Laws of the elements that pass a test, and of a fact of every element.
-use Prim.Native.Nat.{_+_, _≤_}
-use mathlib.Core.Path.{_≡_, refl}
+-- Laws of the elements that pass a test, of images, and of a fact of every element.
+use Prim.Native.Nat.{ℕ, zero, suc, _+_, _*_, _≤_}
+use mathlib.Core.Path.{_≡_, refl, sym, _∙_}
 use mathlib.Core.Bool.{Bool, true, false}
-use mathlib.Core.List.{List, [], _∷_, _++_, map, reverse, reverseAux}
+use mathlib.Core.List.{List, [], _∷_, _++_, map, reverse, reverseAux, append-assoc, append-nil}
+use native.Mathlib.Nat.{suc-mul, zero-mul}
 use native.Mathlib.Omega.{arith}
-use lib.ListN.{length}
-use Rattle.lists.specs.Lists.{push, keep, All}
+use lib.ListN.{length, set, length-append}
+use Rattle.lists.specs.Lists.{push, keep, All, flat}
 
 module _ {A : Type 0} where
   -- what is pushed stays in front
@@ -65,8 +66,39 @@ keep-length p (x ∷ l) = go (p x) (keep-length p l)
     go true h = omega arith
     go false h = omega arith
 
+-- IMAGES
+module _ {A B : Type 0} where
+  -- images of images that give each element back
+  pub map-back : (f : B → A) (g : A → B) (l : List A) → All (λ x. f (g x) ≡ x) l → map f (map g l) ≡ l
+  map-back f g [] h = refl
+  map-back f g (x ∷ l) h = rw (h .0, map-back f g l (h .1))
+
+  -- the images of a list in which one place is another
+  pub map-set : (f : A → B) (l : List A) (k : ℕ) (x : A) → map f (set l k x) ≡ set (map f l) k (f x)
+  map-set f [] k x = refl
+  map-set f (y ∷ l) zero x = refl
+  map-set f (y ∷ l) (suc k) x = rw (map-set f l k x)
+
+  -- one more row
+  pub flat-snoc : (g : A → List B) (l : List A) (x : A) → flat g (l ++ x ∷ []) ≡ flat g l ++ g x
+  flat-snoc g [] x = append-nil (g x)
+  flat-snoc g (y ∷ l) x = rw (flat-snoc g l x) (sym (append-assoc (g y) (flat g l) (g x)))
+
+  -- how long rows of one width are
+  pub flat-length : (g : A → List B) (w : ℕ) (l : List A) → All (λ x. length (g x) ≡ w) l → length (flat g l) ≡ length l * w
+  flat-length g w [] h = sym (zero-mul w)
+  flat-length g w (x ∷ l) h = length-append (g x) (flat g l) ∙ omega (arith, h .0, flat-length g w l (h .1), suc-mul (length l) w)
+
 -- THE OTHER WAY ROUND
 module _ {A : Type 0} where
+  -- a list's image
+  pub map-reverse : {B : Type 0} (f : A → B) (l : List A) → reverse (map f l) ≡ map f (reverse l)
+  map-reverse f l = go l []
+    where
+      go : (l r : List A) → reverseAux (map f l) (map f r) ≡ map f (reverseAux l r)
+      go [] r = refl
+      go (x ∷ l) r = go l (x ∷ r)
+
   -- A fact of every element of two lists is one of every element of the first turned round before the second;
   All-reverseAux : (P : A → Type 0) (l m : List A) → All P l → All P m → All P (reverseAux l m)
   All-reverseAux P [] m h k = k

@@ -9,7 +9,7 @@ use native.Mathlib.Numerals.{add-one}
 use native.Mathlib.Omega.{arith}
 use borrow.Author.Tests.{le-leb, lt-leb, eq-eqb, ne-eqb}
 use lib.Dec.{eqb, leb}
-use lib.ListN.{length, getD, set, replicate, length-set, length-replicate, getD-replicate, List·getD-eq-default}
+use lib.ListN.{length, getD, set, length-set}
 use lib.Seq.{getD-set-other}
 use Rattle.lists.specs.Lists.{any}
 use Rattle.rows.specs.Pad.{below?}
@@ -273,7 +273,3 @@ pub served-stored : (stmts kinds bodies stateKinds entries exits zeros : List �
     → l ≡ flowedRows (partsIn stmts) n k b → (p : Program) → Peopled stmts kinds bodies stateKinds entries exits p → Served p l
 served-stored stmts kinds bodies stateKinds entries exits zeros size nothing n k e j a b l f g i p h =
     rw (i, g (h .flags), f, j, e) (served-all stmts kinds bodies stateKinds entries exits zeros size nothing p h)
-
--- an array of zeros, as the table is at first
-pub zeros-get : (n i : ℕ) → getD (replicate {A = ℕ} n 0) i 0 ≡ 0
-zeros-get n i = ⊎-elim (λ (h : i < n). getD-replicate {A = ℕ} n i 0 0 h) (λ (h : n ≤ i). List·getD-eq-default (replicate {A = ℕ} n 0) 0 (rw length-replicate h)) (below? i n)

@@ -1,15 +1,14 @@
 -- The heads whose rules touch only the machine itself: what their functions are asked, from what all of them are asked, and what is left.
 use Prim.Native.Nat.{ℕ, _+_, _-_, _*_, _≤_, _<_}
-use mathlib.Core.Path.{_≡_, refl, ap, sym, _∙_, subst}
+use mathlib.Core.Path.{_≡_, refl, sym, _∙_, subst}
 use mathlib.Core.List.{List, [], _∷_}
 use native.Mathlib.Omega.{arith}
 use lib.ListN.{getD}
 use Rattle.lists.specs.Facts.{has, first-has}
 use Rattle.answers.specs.declared.Answer.the-variants.{NotAccepted}
-use Rattle.programs.specs.Program.{Program, assign, assert, if, while}
+use Rattle.programs.specs.Program.{Program, assert, if, while}
 use Rattle.programs.specs.Statements.{exprsOf}
 use Rattle.machines.specs.Config.{Machine}
-use Rattle.rules.specs.Act.{does}
 use Rattle.tables.specs.declared.Head.{Head}
 use Rattle.tables.specs.declared.Head.the-variants.{Skip, Assign, New, Delete, Send, Raise, Leave, Return, Assert, Seq, If, While}
 use Rattle.tables.specs.Decode as decode
@@ -22,7 +21,7 @@ use Rattle.engine.specs.Engine.{Acted}
 use Rattle.engine.specs.Holding.{StackHeld}
 use Rattle.remaining.specs.Held.{withRow, withPending}
 use Rattle.stacks.specs.Stacks.{Deep, Framed, deep, framed, stack-held, top-state, top-map}
-use Rattle.statements.specs.Heading.{Heading, actOf, RowAsked, PartAsked, asked-count, head-low}
+use Rattle.statements.specs.Heading.{Heading, actOf, RowAsked, PartAsked}
 use Rattle.statements.specs.Conditions.{TestAsked, BranchAsked}
 use Rattle.storing.specs.Stores.{withStored}
 use Rattle.storing.specs.Storing.{AssignAsked, ReturnAsked}

@@ -1,6 +1,6 @@
 -- Document 01: "From the start configuration, pairs appended equal pairs dequeued, plus pairs waiting, plus pairs held by machines when deleted."
 use Prim.Native.Nat.{ℕ, _+_}
-use mathlib.Core.Path.{_≡_, refl, sym, ap, _∙_, subst}
+use mathlib.Core.Path.{_≡_, refl, ap, _∙_, subst}
 use mathlib.Core.Option.{Option, none, some, Option·map, Option·none-ne-some, Option·some-injective}
 use mathlib.Core.Bool.{Bool, true, false, cond}
 use mathlib.Core.List.{List, [], _∷_, _++_, map}
@@ -15,7 +15,7 @@ use Rattle.runs.specs.Outcome.{took, refused, onOut}
 use Rattle.runs.specs.Run.{later, run}
 use Rattle.machines.specs.Config.{Frame, Pair, Local, Machine, Config, Choice}
 use Rattle.machines.specs.Rooms.{Rooms, isAt, find, setLocal, setQueue, on, each, gone, fill, born, withLocal, withQueue}
-use Rattle.machines.specs.RoomLaws.{keeps-local, on-loc-queue, each-find}
+use Rattle.machines.specs.RoomLaws.{keeps-local, on-loc-queue, each-find, each-none, gone-none}
 use Rattle.machines.specs.Queue.{waits, put}
 use Rattle.rules.specs.declared.Rule.{Rule}
 use Rattle.rules.specs.declared.Rule.the-variants.{ASSIGN, NEW, DELETE, ASSERT, SEQ, IF, WHILE, SEND, RAISE, LEAVE, RETURN, DEQUEUE, STEP, ACTION, CALL, POP1, POP2}
@@ -97,25 +97,6 @@ held-local i l (some m ∷ rs) = rw (held-local i l rs) (go (isAt i m))
     go true = refl
     go false = refl
 
--- no machine i: nothing changes
-each-none : (i : ℕ) (f : Machine → Machine) (rs : Rooms) → find i rs ≡ none → each (on i f) rs ≡ rs
-each-none i f [] h = refl
-each-none i f (none ∷ rs) h = ap (λ ts. none ∷ ts) (each-none i f rs h)
-each-none i f (some m ∷ rs) h = go (isAt i m) h (each-none i f rs)
-  where
-    go : (b : Bool) → cond b (some m) (find i rs) ≡ none → (find i rs ≡ none → each (on i f) rs ≡ rs) → some (cond b (f m) m) ∷ each (on i f) rs ≡ some m ∷ rs
-    go true e k = absurd (Option·none-ne-some _ (sym e))
-    go false e k = ap (λ ts. some m ∷ ts) (k e)
-
-gone-nobody : (i : ℕ) (rs : Rooms) → find i rs ≡ none → map (gone i) rs ≡ rs
-gone-nobody i [] h = refl
-gone-nobody i (none ∷ rs) h = ap (λ ts. none ∷ ts) (gone-nobody i rs h)
-gone-nobody i (some m ∷ rs) h = go (isAt i m) h (gone-nobody i rs)
-  where
-    go : (b : Bool) → cond b (some m) (find i rs) ≡ none → (find i rs ≡ none → map (gone i) rs ≡ rs) → cond b none (some m) ∷ map (gone i) rs ≡ some m ∷ rs
-    go true e k = absurd (Option·none-ne-some _ (sym e))
-    go false e k = ap (λ ts. some m ∷ ts) (k e)
-
 held-queue : (i : ℕ) (q : List Pair) (n : Machine) (rs : Rooms) → Distinct rs → find i rs ≡ some n → total held (each (on i (setQueue q)) rs) + length (n .queue) ≡ total held rs + length q
 held-queue i q n [] d h = absurd (Option·none-ne-some _ h)
 held-queue i q n (none ∷ rs) d h = omega (arith, held-queue i q n rs d h)
@@ -133,7 +114,7 @@ held-gone i n (some m ∷ rs) d h = go (isAt i m) refl h (held-gone i n rs (d .1
   where
     go : (b : Bool) → isAt i m ≡ b → cond b (some m) (find i rs) ≡ some n → (find i rs ≡ some n → total held (map (gone i) rs) + length (n .queue) ≡ total held rs) →
         held (cond b none (some m)) + total held (map (gone i) rs) + length (n .queue) ≡ length (m .queue) + total held rs
-    go true b e k = rw (gone-nobody i rs (subst (λ j. find j rs ≡ none) (eqb-true (m .this) i b) (d .0)), ← Option·some-injective _ _ e) (omega arith)
+    go true b e k = rw (gone-none i rs (subst (λ j. find j rs ≡ none) (eqb-true (m .this) i b) (d .0)), ← Option·some-injective _ _ e) (omega arith)
     go false b e k = omega (arith, k e)
 
 held-fill : (m : Machine) (rs ts : Rooms) → m .queue ≡ [] → fill m rs ≡ some ts → total held ts ≡ total held rs

@@ -11,11 +11,12 @@ use native.Mathlib.Numerals.{add-one}
 use native.Mathlib.Omega.{arith}
 use lib.Dec.{eqb}
 use lib.ListN.{length, getD, set, length-set}
-use lib.Seq.{ext-getD, getD-set-same, getD-set-other}
+use lib.Seq.{getD-set-same, getD-set-other}
+use Rattle.configs.specs.Reversed.{downTo-length}
 use Rattle.lists.specs.Lists.{at}
 use Rattle.lists.specs.Facts.{All-has}
 use Rattle.lists.specs.Down.{downward}
-use Rattle.rows.specs.Part.{Off, part, part-length, part-get}
+use Rattle.rows.specs.Part.{Off, part, part-get, off-set, part-ext}
 use Rattle.programs.specs.Sizes.{LIVE, ROW}
 use Rattle.programs.specs.Program.{Program, skip, stmtAt}
 use Rattle.programs.specs.Statements.{isSkip, isSeq, parts, height}
@@ -104,10 +105,6 @@ row-past b n l v xs h = row-ext b n xs (set xs (b + l) v) (λ k q. getD-set-othe
 row-head : (b l v : ℕ) (xs : List ℕ) → b + l < length xs → rowAt b (suc l) (set xs (b + l) v) ≡ v ∷ rowAt b l xs
 row-head b l v xs h = rw (getD-set-same xs (b + l) v 0 h, row-past b l l v xs (omega arith))
 
--- what is off the room's places is off a store to one of them
-off-set : (b l v : ℕ) (xs : List ℕ) → l < ROW → (k : ℕ) → Off b ROW k → getD (set xs (b + l) v) k 0 ≡ getD xs k 0
-off-set b l v xs h k o = getD-set-other xs (b + l) k v 0 (λ e. ⊎-elim (λ (i : k < b). omega arith) (λ (i : b + ROW ≤ k). omega arith) o)
-
 -- the row of a room that is lifted out of the flat list
 pub row-part : (b n : ℕ) (xs : List ℕ) → n ≤ ROW → downTo (λ k. getD (part b ROW xs) k 0) n ≡ rowAt b n xs
 row-part b zero xs h = refl
@@ -150,20 +147,13 @@ module _ {b n m : ℕ} {xs ys : List ℕ} {Of : Program → Type 0} {f : Program
   -- the 33 places from c on, where they are another room's
   pub becomes-other : (c : ℕ) → c + ROW ≤ LIVE * ROW → (c + ROW ≤ b) ⊎ (b + ROW ≤ c) → part c ROW ys ≡ part c ROW xs
   becomes-other c i o =
-      let u : length (part c ROW ys) ≡ ROW = part-length c ROW ys (rw (change .row .long) i) in
-      let v : length (part c ROW xs) ≡ ROW = part-length c ROW xs (rw (row .long) i) in
-      ext-getD 0 (part c ROW ys) (part c ROW xs) (u ∙ sym v) (λ k h. let g : k < ROW = omega arith in
-      part-get c ROW ys k 0 g ∙ change .off (c + k) (⊎-elim (λ (q : c + ROW ≤ b). inl (omega arith)) (λ (q : b + ROW ≤ c). inr (omega arith)) o) ∙ sym (part-get c ROW xs k 0 g))
-
--- how many parts a row has
-row-length : (b n : ℕ) (xs : List ℕ) → length (rowAt b n xs) ≡ n
-row-length b zero xs = refl
-row-length b (suc n) xs = ap suc (row-length b n xs)
+      part-ext 0 c ROW xs ys (rw (row .long) i) (change .row .long ∙ sym (row .long))
+      (λ k h. change .off (c + k) (⊎-elim (λ (q : c + ROW ≤ b). inl (omega arith)) (λ (q : b + ROW ≤ c). inr (omega arith)) o))
 
 -- the rule of 33 says that the head may be split
 pub head-low : (p : Program) (b n : ℕ) (xs : List ℕ) (q : ℕ) → Heights p q (rowAt b n xs) → (l : ℕ) → l + 1 ≡ n → height p (getD xs (b + l) 0) + l ≤ ROW
 head-low p b zero xs q h l e = absurd (omega arith)
-head-low p b (suc n) xs q h l e = let i : l ≡ n = omega arith in rw i (omega (arith, h .0, row-length b n xs))
+head-low p b (suc n) xs q h l e = let i : l ≡ n = omega arith in rw i (omega (arith, h .0, downTo-length (λ k. getD xs (b + k) 0) n))
 
 -- STATEMENTS
 -- of a head: a skip
@@ -313,7 +303,7 @@ module _ (b n l : ℕ) (xs : List ℕ) (row : Row b n xs) (e : l + 1 ≡ n) wher
 
   -- what is off it
   finish-off : (k : ℕ) → Off b ROW k → getD (set xs (b + l) 0) k 0 ≡ getD xs k 0
-  finish-off = off-set b l 0 xs (omega (arith, row .fits))
+  finish-off = off-set 0 b ROW l 0 xs (omega (arith, row .fits))
 
   -- how it reads, before a lone skip is dropped
   finish-reads : (w : Bool) (p : Program) → finished w p (rowAt b n xs) ≡ alone w p (rowAt b n (set xs (b + l) 0))
@@ -435,6 +425,6 @@ module _ (stmts : List ℕ) (b n : ℕ) (xs₀ : List ℕ) (l s : ℕ) (xs : Lis
     settle-more = let e : b + l + 1 ≡ b + (l + 1) = omega arith in rw e (record {
       ready = new-ready;
       head = sym new-head;
-      off = λ k o. off-set b (l + 1) x (set xs (b + l) y) (omega (arith, settle-fits)) k o ∙ off-set b l y xs (omega (arith, settle-fits)) k o ∙ at-head .off k o;
+      off = λ k o. off-set 0 b ROW (l + 1) x (set xs (b + l) y) (omega (arith, settle-fits)) k o ∙ off-set 0 b ROW l y xs (omega (arith, settle-fits)) k o ∙ at-head .off k o;
       reads = new-reads;
     })

@@ -23,9 +23,9 @@ use Rattle.configs.specs.Flat.{Flat, room-path}
 use Rattle.parts.specs.Parts.{Said, Any, tidied}
 use Rattle.engine.specs.declared.Outcome.the-variants.{Took, Refused}
 use Rattle.engine.specs.Engine.{Changed}
-use Rattle.engine.specs.Holding.{Elsewhere, RowHeld, RowBecomes, StackHeld}
+use Rattle.engine.specs.Holding.{Elsewhere, RowHeld, RowBecomes, StackHeld, untouched, touched-place}
 use Rattle.remaining.specs.Remaining.{Placing}
-use Rattle.remaining.specs.Held.{changed, untouched, touched-place, row-taken, row-there, placing-there, remains-pends}
+use Rattle.remaining.specs.Held.{changed, row-taken, row-there, placing-there, remains-pends}
 use Rattle.stacks.specs.Stacks.{Deep, Framed, StackBecomes, Callable, CallAsked as Called, popped, stepped, entered, framed, deep, top-state, stack-held}
 use Rattle.pending.specs.Pending.{among, Here, StepAsked, CallAsked, ActionAsked, RaiseAsked, ReturnAsked, StepLeaves, CallLeaves, ActionLeaves, RaiseLeaves, ReturnLeaves}
 

@@ -1,6 +1,6 @@
 -- The queue of numbers is the definitions' queue of pairs: a put to it is ⊙, a removal of the first pair that is not held back is DEQUEUE's.
 use Prim.Native.Nat.{ℕ, zero, suc, _<_, suc-le-suc}
-use mathlib.Core.Path.{_≡_, refl, ap, sym}
+use mathlib.Core.Path.{_≡_, refl, ap}
 use mathlib.Core.Option.{none, some, Option·map, Option·none-ne-some}
 use mathlib.Core.Bool.{Bool, true, false, cond}
 use mathlib.Core.List.{List, [], _∷_, _++_, map}
@@ -9,7 +9,7 @@ use lib.Dec.{eqb, ltb}
 use lib.ListN.{length, getD, length-map}
 use Rattle.lists.specs.Lists.{any, All}
 use Rattle.lists.specs.Facts.{All-append}
-use Rattle.lists.specs.Tells.{Tells}
+use Rattle.lists.specs.Tells.{agree}
 use Rattle.rows.specs.Pad.{without}
 use Rattle.programs.specs.Program.{Program}
 use Rattle.machines.specs.Config.{Reply, Pair}
@@ -24,12 +24,6 @@ use Rattle.queues.specs.Queues.{queueAt, putNumber}
 -- the queue of the machine in room i
 pub queue-reads : (p : Program) (f : Flat) (i : ℕ) → machineOf p (roomAt f i) .queue ≡ map pairOf (queueAt (f .pairs) (f .waiting) i)
 queue-reads p f i = refl
-
--- two tests of one fact agree
-agree : (a b : Bool) {P : Type 0} → Tells a P → Tells b P → a ≡ b
-agree true b s t = sym (t .test (s .holds refl))
-agree false true s t = s .test (t .holds refl)
-agree false false s t = refl
 
 -- canonical numbers are equal exactly where their pairs are the same
 pub same-number : (x y : ℕ) → CanonicalPair x → CanonicalPair y → eqb x y ≡ same (pairOf x) (pairOf y)

@@ -28,8 +28,7 @@ use Rattle.maps.specs.Maps.{Asked, mapAt, Tables}
 use Rattle.parts.specs.Parts.{Said, tidied}
 use Rattle.evaluation.specs.Evaluated.{REST, evaluated}
 use Rattle.engine.specs.declared.Outcome.the-variants.{Took, Refused}
-use Rattle.engine.specs.Holding.{RowBecomes}
-use Rattle.remaining.specs.Held.{touched, touched-then}
+use Rattle.engine.specs.Holding.{RowBecomes, touched, touched-then}
 use Rattle.stored.specs.Stated.{tables-said}
 use Rattle.stored.specs.Stored.{told-set, head-serves}
 use Rattle.statements.specs.Heading.{PartAsked, asked-said}

@@ -1,15 +1,15 @@
 -- The row of a machine that stands in a room, what the functions of src/lib.rt are asked of it, and the room after a change of the row: laws for the rules.
 use Prim.Native.Nat.{ℕ, zero, suc, _+_, _*_, _≤_, _<_}
 use mathlib.Core.Path.{_≡_, refl, sym, ap, _∙_}
-use mathlib.Core.Logic.{⊎-elim, inl, inr}
+use mathlib.Core.Logic.{⊎-elim}
 use mathlib.Core.Bool.{Bool, not}
-use mathlib.Core.List.{List, [], _∷_, _++_, reverse, reverse-cons}
+use mathlib.Core.List.{List, _∷_, reverse}
 use native.Mathlib.Omega.{arith}
 use lib.Dec.{eqb}
-use lib.ListN.{length, getD, set, length-set, length-reverse, List·getD-append, List·getD-eq-default}
-use lib.Seq.{ext-getD, getD-set-same, getD-set-other, getD-append-seam}
+use lib.ListN.{length, getD, set, length-reverse, List·getD-eq-default}
+use lib.Seq.{getD-set-same}
 use Rattle.rows.specs.Pad.{pad, pad-get, pad-ext, below?}
-use Rattle.rows.specs.Part.{Off, part, part-length, part-get, apart, within}
+use Rattle.rows.specs.Part.{part, part-length, part-get}
 use Rattle.programs.specs.Program.{Program}
 use Rattle.programs.specs.Statements.{height}
 use Rattle.soundness.specs.Sound.{Sound}
@@ -20,70 +20,15 @@ use Rattle.machines.specs.Rooms.{setLocal}
 use Rattle.machines.specs.Row.{headed, tidy}
 use Rattle.acceptance.specs.Accepted.{counted, Heights}
 use Rattle.kept.specs.KeptRow.{row-fits}
-use Rattle.configs.specs.Decode.{downTo, pendingOf}
+use Rattle.configs.specs.Decode.{pendingOf}
 use Rattle.configs.specs.Encode.{heldCode, taken}
-use Rattle.configs.specs.Reversed.{downTo-reverse}
+use Rattle.configs.specs.Reversed.{downTo-reverse, downTo-length, downTo-at}
 use Rattle.configs.specs.RoundTrip.{pending-back}
 use Rattle.configs.specs.Flat.{Flat, Sized, roomAt, room-path}
 use Rattle.parts.specs.Parts.{rowAt, Said, tidied, awaits, awaits-held, lone-awaits}
 use Rattle.engine.specs.Engine.{Stands, Changed}
-use Rattle.engine.specs.Holding.{Elsewhere, RowHeld, RowBecomes}
+use Rattle.engine.specs.Holding.{Elsewhere, RowHeld, RowBecomes, other-row, other-place, untouched, touched-place}
 use Rattle.remaining.specs.Remaining.{Headed, Placing, Dropping, standing}
-
--- A LIST READ FROM ITS LAST PLACE ON
--- has as many elements as are read,
-down-length : (g : ℕ → ℕ) (n : ℕ) → length (downTo g n) ≡ n
-down-length g zero = refl
-down-length g (suc n) = ap suc (down-length g n)
-
--- and in reverse has element i at place i
-down-at : (g : ℕ → ℕ) (n i : ℕ) → i < n → getD (reverse (downTo g n)) i 0 ≡ g i
-down-at g zero i h = absurd (omega arith)
-down-at g (suc n) i h =
-    let e : length (reverse (downTo g n)) ≡ n = length-reverse (downTo g n) ∙ down-length g n in
-    ap (λ (l : List ℕ). getD l i 0) (reverse-cons (g n) (downTo g n))
-    ∙ ⊎-elim
-    (λ (b : i < n). List·getD-append (reverse (downTo g n)) (g n ∷ []) 0 i (omega arith) ∙ down-at g n i b)
-    (λ (b : n ≤ i). let q : i ≡ length (reverse (downTo g n)) = omega arith in let z : n ≡ i = omega arith in
-    ap (λ (j : ℕ). getD (reverse (downTo g n) ++ g n ∷ []) j 0) q ∙ getD-append-seam (reverse (downTo g n)) (g n) [] 0 ∙ ap g z)
-    (below? i n)
-
--- OTHER ROOMS
-module _ {k w : ℕ} {xs ys : List ℕ} (off : Elsewhere k w xs ys) where
-  -- the w places of another room are as they were
-  pub other-row : (j : ℕ) → j < 32 → (j ≡ k → ⊥) → length xs ≡ 32 * w → part (j * w) w ys ≡ part (j * w) w xs
-  other-row j h n size =
-      let inside : j * w + w ≤ length xs = rw size (within w 32 j h) in
-      let inside' : j * w + w ≤ length ys = rw (off .size) inside in
-      ext-getD 0 (part (j * w) w ys) (part (j * w) w xs) (part-length (j * w) w ys inside' ∙ sym (part-length (j * w) w xs inside))
-      (λ i b. let q : i < w = omega (arith, part-length (j * w) w ys inside') in
-      part-get (j * w) w ys i 0 q ∙ off .same (j * w + i) (⊎-elim (λ (a : j * w + w ≤ k * w). inl (omega arith)) (λ (a : k * w + w ≤ j * w). inr (omega arith)) (apart w k j n)) ∙ sym (part-get (j * w) w xs i 0 q))
-
--- and so is the one place
-pub other-place : {k : ℕ} {xs ys : List ℕ} → Elsewhere k 1 xs ys → (j : ℕ) → (j ≡ k → ⊥) → getD ys j 0 ≡ getD xs j 0
-other-place {k = k} off j n = off .same j (⊎-elim (λ (a : j < k). inl (omega arith)) (λ (a : k ≤ j). inr (omega arith)) (below? j k))
-
--- a list that is not touched
-pub untouched : {k w : ℕ} {xs : List ℕ} → Elsewhere k w xs xs
-untouched = record { size = refl; same = λ j o. refl }
-
--- a store to one of the room's places
-pub touched : (k w j v : ℕ) (xs : List ℕ) → j < w → Elsewhere k w xs (set xs (k * w + j) v)
-touched k w j v xs h = record { size = length-set xs (k * w + j) v; same = λ i o. getD-set-other xs (k * w + j) i v 0 (apart-from (k * w) i o) }
-  where
-    apart-from : (b i : ℕ) → Off b w i → i ≡ b + j → ⊥
-    apart-from b i o e = ⊎-elim (λ (a : i < b). omega arith) (λ (a : b + w ≤ i). omega arith) o
-
--- to its one place
-pub touched-place : (k v : ℕ) (xs : List ℕ) → Elsewhere k 1 xs (set xs k v)
-touched-place k v xs = record {
-  size = length-set xs k v;
-  same = λ i o. getD-set-other xs k i v 0 (λ e. ⊎-elim (λ (a : i < k * 1). omega arith) (λ (a : k * 1 + 1 ≤ i). omega arith) o);
-}
-
--- one after another
-pub touched-then : {k w : ℕ} {xs ys zs : List ℕ} → Elsewhere k w xs ys → Elsewhere k w ys zs → Elsewhere k w xs zs
-touched-then a b = record { size = b .size ∙ a .size; same = λ j o. b .same j o ∙ a .same j o }
 
 -- THE LISTS g ARE f OFF ROOM k
 pub record OnlyRoom (f : Flat) (k : ℕ) (g : Flat) : Type 0 where
@@ -161,11 +106,11 @@ pub row-taken : {k : ℕ} {counts parts r : List ℕ} → RowHeld k counts parts
 row-taken {k = k} {counts = counts} {parts = parts} {r = r} h = (size, row)
   where
     size : getD counts k 0 ≡ length r
-    size = sym (down-length (λ j. getD parts (k * 33 + j) 0) (getD counts k 0)) ∙ ap length (h .reads)
+    size = sym (downTo-length (λ j. getD parts (k * 33 + j) 0) (getD counts k 0)) ∙ ap length (h .reads)
 
     place : (i : ℕ) → i < 33 → getD parts (k * 33 + i) 0 ≡ getD (reverse r) i 0
     place i b = ⊎-elim
-        (λ (a : i < getD counts k 0). sym (down-at (λ j. getD parts (k * 33 + j) 0) (getD counts k 0) i a) ∙ ap (λ (l : List ℕ). getD (reverse l) i 0) (h .reads))
+        (λ (a : i < getD counts k 0). sym (downTo-at (λ j. getD parts (k * 33 + j) 0) 0 (getD counts k 0) i a) ∙ ap (λ (l : List ℕ). getD (reverse l) i 0) (h .reads))
         (λ (a : getD counts k 0 ≤ i). h .row .zeros i a b ∙ sym (List·getD-eq-default (reverse r) 0 (omega (arith, length-reverse r, size))))
         (below? i (getD counts k 0))
 
@@ -245,7 +190,7 @@ module _ (p : Program) (f : Flat) (k : ℕ) (m : Machine) (sound : Sound p) (s :
       go : (l n : ℕ) → l + 2 ≡ n → Heights p (counted (m .loc .pending)) (rowAt (k * 33) n (f .parts)) → height p (getD (f .parts) (k * 33 + l) 0) + l ≤ 33
       go l zero q hs = absurd (omega arith)
       go l (suc zero) q hs = absurd (omega arith)
-      go l (suc (suc n)) q hs = let z : l ≡ n = omega arith in rw z (omega (arith, hs .1 .0, down-length (λ j. getD (f .parts) (k * 33 + j) 0) n))
+      go l (suc (suc n)) q hs = let z : l ≡ n = omega arith in rw z (omega (arith, hs .1 .0, downTo-length (λ j. getD (f .parts) (k * 33 + j) 0) n))
 
   -- A CHANGE OF THE ROW
   module _ {Of : Program → Type 0} {g : Program → List ℕ → List ℕ} {counts parts : List ℕ} (change : RowBecomes k (f .counts) (f .parts) Of g counts parts) (of : Of p) where

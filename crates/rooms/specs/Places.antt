@@ -1,18 +1,17 @@
 -- The definitions' rooms by their places: where machine i stands, what a change of it, its deletion and a creation are at that place.
 use Prim.Native.Nat.{ℕ, zero, suc, _≤_, _<_, suc-le-suc}
-use mathlib.Core.Path.{_≡_, refl, sym, ap, _∙_}
-use mathlib.Core.Logic.{_≢_}
-use mathlib.Core.Option.{none, some, Option·map, Option·none-ne-some}
+use mathlib.Core.Path.{_≡_, refl, sym, _∙_}
+use mathlib.Core.Option.{none, some, Option·none-ne-some}
 use mathlib.Core.Bool.{Bool, true, false, cond}
 use mathlib.Core.List.{List, [], _∷_, map}
 use native.Mathlib.Nat.{le-of-suc-le-suc, not-suc-le-zero, zero-lt-suc}
 use borrow.Author.Tests.{eqb-true, ne-eqb}
 use lib.Dec.{eqb}
-use lib.ListN.{length, getD, set, List·getD-map}
+use lib.ListN.{length, getD, set}
 use Rattle.lists.specs.Facts.{eqb-same}
 use Rattle.machines.specs.Config.{Machine}
-use Rattle.machines.specs.Rooms.{Rooms, isAt, find, on, each, gone, fill}
-use Rattle.machines.specs.RoomLaws.{Keeps, keeps-on, on-other, each-find}
+use Rattle.machines.specs.Rooms.{Rooms, find, on, each, gone, fill}
+use Rattle.machines.specs.RoomLaws.{each-none, gone-none}
 use Rattle.acceptance.specs.Accepted.{Distinct}
 
 -- THE FIRST PLACE of 32 where number i stands is r; 32 where there is none
@@ -43,28 +42,6 @@ find-at (some n ∷ rs) (suc k) m d e = go (eqb (n .this) (m .this)) refl (find-
 -- so no machine behind the first of two has the first's number
 apart : (n : Machine) (rs : Rooms) (k : ℕ) (m : Machine) → Distinct (some n ∷ rs) → getD rs k none ≡ some m → n .this ≡ m .this → ⊥
 apart n rs k m d e q = Option·none-ne-some _ (sym (rw q at (d .0)) ∙ find-at rs k m (d .1) e)
-
--- CHANGES
-module _ (i : ℕ) where
-  -- where machine i is not found, its change changes nothing,
-  pub each-none : (g : Machine → Machine) (rs : Rooms) → find i rs ≡ none → each (on i g) rs ≡ rs
-  each-none g [] e = refl
-  each-none g (none ∷ rs) e = rw (each-none g rs e)
-  each-none g (some m ∷ rs) e = go (isAt i m) (each-none g rs) e
-    where
-      go : (b : Bool) → (find i rs ≡ none → each (on i g) rs ≡ rs) → cond b (some m) (find i rs) ≡ none → some (cond b (g m) m) ∷ each (on i g) rs ≡ some m ∷ rs
-      go true h e = absurd (Option·none-ne-some _ (sym e))
-      go false h e = rw (h e)
-
-  -- nor its deletion
-  pub gone-none : (rs : Rooms) → find i rs ≡ none → map (gone i) rs ≡ rs
-  gone-none [] e = refl
-  gone-none (none ∷ rs) e = rw (gone-none rs e)
-  gone-none (some m ∷ rs) e = go (isAt i m) (gone-none rs) e
-    where
-      go : (b : Bool) → (find i rs ≡ none → map (gone i) rs ≡ rs) → cond b (some m) (find i rs) ≡ none → cond b none (some m) ∷ map (gone i) rs ≡ some m ∷ rs
-      go true h e = absurd (Option·none-ne-some _ (sym e))
-      go false h e = rw (h e)
 
 -- A CHANGE OF MACHINE m is a change at its place
 pub on-set : (g : Machine → Machine) (rs : Rooms) (k : ℕ) (m : Machine) → Distinct rs → getD rs k none ≡ some m → each (on (m .this) g) rs ≡ set rs k (some (g m))
@@ -101,34 +78,3 @@ pub fill-none : (m : Machine) (rs : Rooms) → ((j : ℕ) → j < length rs → 
 fill-none m [] h = refl
 fill-none m (none ∷ rs) h = absurd (h 0 (zero-lt-suc _) refl)
 fill-none m (some n ∷ rs) h = rw (fill-none m rs (λ j b. h (suc j) (suc-le-suc b)))
-
--- what is held of a list that is the same but for one place
-pub map-set : {A B : Type 0} (f : A → B) (l : List A) (k : ℕ) (x : A) → map f (set l k x) ≡ set (map f l) k (f x)
-map-set f [] k x = refl
-map-set f (y ∷ l) zero x = refl
-map-set f (y ∷ l) (suc k) x = rw (map-set f l k x)
-
--- TWO CHANGES
--- of one machine, the first of which leaves it its number: one change
-pub each-twice : (i : ℕ) (f g : Machine → Machine) → Keeps g → (rs : Rooms) → each (on i f) (each (on i g) rs) ≡ each (on i (λ m. f (g m))) rs
-each-twice i f g k [] = refl
-each-twice i f g k (none ∷ rs) = rw (each-twice i f g k rs)
-each-twice i f g k (some m ∷ rs) = rw (each-twice i f g k rs, go (isAt i m) refl)
-  where
-    go : (b : Bool) → isAt i m ≡ b → on i f (cond b (g m) m) ≡ cond b (f (g m)) m
-    go true e = rw (k m, e)
-    go false e = rw e
-
--- numbers that are distinct stay so
-pub distinct-each : (g : Machine → Machine) → Keeps g → (rs : Rooms) → Distinct rs → Distinct (each g rs)
-distinct-each g k [] d = tt
-distinct-each g k (none ∷ rs) d = distinct-each g k rs d
-distinct-each g k (some m ∷ rs) d = (rw (k m, each-find g k (m .this) rs, d .0), distinct-each g k rs (d .1))
-
--- of two machines: a change at each one's place
-pub on-on-set : (f g : Machine → Machine) → Keeps g → (rs : Rooms) (k j : ℕ) (m n : Machine) → Distinct rs → getD rs k none ≡ some m → getD rs j none ≡ some n → n .this ≢ m .this
-    → each (on (n .this) f) (each (on (m .this) g) rs) ≡ set (set rs k (some (g m))) j (some (f n))
-on-on-set f g q rs k j m n d e h a =
-    let own : getD (each (on (m .this) g) rs) j none ≡ some n = List·getD-map (Option·map (on (m .this) g)) rs j none ∙ rw h (ap some (on-other (m .this) g n a)) in
-    on-set f (each (on (m .this) g) rs) j n (distinct-each (on (m .this) g) (keeps-on (m .this) g q) rs d) own
-    ∙ ap (λ (l : Rooms). set l j (some (f n))) (on-set g rs k m d e)

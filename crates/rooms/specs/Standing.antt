@@ -6,11 +6,11 @@ use mathlib.Core.Option.{Option, none, some, Option·none-ne-some}
 use mathlib.Core.List.{List, map}
 use mathlib.Core.Logic.{⊎-elim}
 use native.Mathlib.Omega.{arith}
-use lib.ListN.{length, getD, set, List·getD-map, List·getD-eq-default}
+use lib.ListN.{getD, set, List·getD-map, List·getD-eq-default}
 use Rattle.lists.specs.Lists.{onOpt}
 use Rattle.lists.specs.Facts.{All-getD}
 use Rattle.rows.specs.Pad.{below?}
-use Rattle.rows.specs.Seek.{table, table-at}
+use Rattle.rows.specs.Seek.{table, table-at, table-set}
 use Rattle.programs.specs.Program.{Program}
 use Rattle.runs.specs.Outcome.{took, refused}
 use Rattle.machines.specs.Config.{Pair, Local, Machine, Config}
@@ -23,10 +23,12 @@ use Rattle.acceptance.specs.Accepted.{RoomOk, MachineOk, Accepted}
 use Rattle.configs.specs.declared.Room.{Room}
 use Rattle.configs.specs.declared.Config.{Config as Held}
 use Rattle.configs.specs.Encode.{free, taken, roomCode, written}
-use Rattle.configs.specs.Flat.{Flat, Sized, roomAt, held, table-set}
+use Rattle.configs.specs.Flat.{Flat, Sized, roomAt, held}
 use Rattle.engine.specs.declared.Outcome.{Outcome}
 use Rattle.engine.specs.Engine.{Stands, Changed, Acted, Dequeued, Performed}
-use Rattle.rooms.specs.Places.{First, find-none, find-at, on-set, map-set, each-twice}
+use Rattle.machines.specs.RoomLaws.{each-twice}
+use Rattle.lists.specs.Keep.{map-set}
+use Rattle.rooms.specs.Places.{First, find-none, find-at, on-set}
 
 -- the number of a room: 0 where it is free
 abbrev pub numberOf : Option Machine → ℕ

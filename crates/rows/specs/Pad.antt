@@ -25,8 +25,9 @@ module _ {A : Type 0} (z : A) where
   unfolding pad
   pad-take size xs = take-at xs _ (length xs) refl
 
-  past : (n i : ℕ) → getD (replicate n z) i z ≡ z
-  past n i = ⊎-elim (λ h. getD-replicate n i z z h) (λ h. List·getD-eq-default (replicate n z) z (rw length-replicate h)) (below? i n)
+  -- a row of zeros alone
+  pub zeros-get : (n i : ℕ) → getD (replicate n z) i z ≡ z
+  zeros-get n i = ⊎-elim (λ h. getD-replicate n i z z h) (λ h. List·getD-eq-default (replicate n z) z (rw length-replicate h)) (below? i n)
 
   pub pad-get : (size : ℕ) (xs : List A) (i : ℕ) → getD (pad size xs) i z ≡ getD xs i z
   unfolding pad
@@ -35,7 +36,7 @@ module _ {A : Type 0} (z : A) where
       (λ (h : length xs ≤ i).
       let e : length xs + (i - length xs) ≡ i = omega arith in
       subst (λ (k : ℕ). getD (xs ++ replicate (size - length xs) z) k z ≡ getD xs i z) e
-      (getD-append-add xs (replicate (size - length xs) z) (i - length xs) z ∙ past (size - length xs) (i - length xs) ∙ sym (List·getD-eq-default xs z h)))
+      (getD-append-add xs (replicate (size - length xs) z) (i - length xs) z ∙ zeros-get (size - length xs) (i - length xs) ∙ sym (List·getD-eq-default xs z h)))
       (below? i (length xs))
 
   -- a row is known by its length and its elements

@@ -81,6 +81,17 @@ module _ {A : Type 0} where
       ∙ getD-drop (b + length r) xs (k - (b + length r)) z ∙ ap (λ (n : ℕ). getD xs n z) e2)
 
 module _ {A : Type 0} (z : A) where
+  -- what is off the part is off a store in it
+  pub off-set : (b w j : ℕ) (v : A) (xs : List A) → j < w → (k : ℕ) → Off b w k → getD (set xs (b + j) v) k z ≡ getD xs k z
+  off-set b w j v xs h k o = getD-set-other xs (b + j) k v z (λ e. ⊎-elim (λ (i : k < b). omega arith) (λ (i : b + w ≤ k). omega arith) o)
+
+  -- a part is known by its places
+  pub part-ext : (b w : ℕ) (xs ys : List A) → b + w ≤ length xs → length ys ≡ length xs → ((j : ℕ) → j < w → getD ys (b + j) z ≡ getD xs (b + j) z) → part b w ys ≡ part b w xs
+  part-ext b w xs ys h e f =
+      let l : length (part b w ys) ≡ w = part-length b w ys (omega arith) in
+      ext-getD z (part b w ys) (part b w xs) (l ∙ sym (part-length b w xs h))
+      (λ j hj. let q : j < w = omega arith in part-get b w ys j z q ∙ f j q ∙ sym (part-get b w xs j z q))
+
   -- a list is known by its part and by what is off it
   pub put-ext : (b : ℕ) (r xs l : List A) → b + length r ≤ length xs → length l ≡ length xs
       → ((j : ℕ) → j < length r → getD l (b + j) z ≡ getD r j z) → ((k : ℕ) → Off b (length r) k → getD l k z ≡ getD xs k z) → l ≡ put b r xs

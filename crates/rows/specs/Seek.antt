@@ -1,11 +1,14 @@
 -- The first element that passes a test, by its place; and a list given by its elements.
 use mathlib.Core.Path.{_≡_, refl, ap, sym, _∙_}
 use mathlib.Core.Bool.{Bool as 𝔹, true, false, cond}
-use mathlib.Core.List.{List, [], _∷_}
+use mathlib.Core.List.{List, [], _∷_, map}
+use mathlib.Core.Logic.{dite}
 use Prim.Native.Nat.{ℕ, zero, suc, _+_, _<_, suc-le-suc}
 use native.Mathlib.Nat.{le-of-suc-le-suc, not-suc-le-zero, zero-lt-suc, zero-add, add-zero}
 use native.Mathlib.Omega.{arith}
-use lib.ListN.{length, getD}
+use native.Mathlib.Decide.{ℕ-discrete}
+use lib.ListN.{length, getD, set, length-set}
+use lib.Seq.{ext-getD, getD-set-same, getD-set-other}
 
 module _ {A R : Type 0} (f : A → 𝔹) (found : ℕ → R) (none : R) where
   unfoldable pub seekFrom : ℕ → List A → R
@@ -58,3 +61,18 @@ module _ {A : Type 0} where
 
   pub table-at : (f : ℕ → A) (d : A) (n i : ℕ) → i < n → getD (table f 0 n) i d ≡ f i
   table-at f d n i h = table-get f d 0 n i h ∙ ap f (zero-add i)
+
+-- a table's image is a table
+pub map-table : {A B : Type 0} (g : A → B) (f : ℕ → A) (k n : ℕ) → map g (table f k n) ≡ table (λ j. g (f j)) k n
+unfolding table
+map-table g f k zero = refl
+map-table g f k (suc n) = rw (map-table g f (k + 1) n)
+
+-- two functions that differ at i at most have tables that differ at i at most
+pub table-set : {A : Type 0} (d : A) (f g : ℕ → A) (n i : ℕ) → i < n → ((j : ℕ) → j < n → (j ≡ i → ⊥) → g j ≡ f j) → table g 0 n ≡ set (table f 0 n) i (g i)
+table-set d f g n i h o =
+    ext-getD d (table g 0 n) (set (table f 0 n) i (g i)) (table-length g 0 n ∙ sym (length-set (table f 0 n) i (g i) ∙ table-length f 0 n))
+    (λ j q. let hj : j < n = omega (arith, table-length g 0 n) in
+    dite (ℕ-discrete j i)
+    (λ e. rw e (table-at g d n i h ∙ sym (getD-set-same (table f 0 n) i (g i) d (omega (arith, table-length f 0 n)))))
+    (λ e. table-at g d n j hj ∙ o j hj e ∙ sym (table-at f d n j hj) ∙ sym (getD-set-other (table f 0 n) i j (g i) d e)))

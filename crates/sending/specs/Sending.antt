@@ -24,7 +24,8 @@ use Rattle.queues.specs.Queues.{queueAt, Put, put-done, put-refused}
 use Rattle.engine.specs.declared.Outcome.the-variants.{Took, Refused}
 use Rattle.engine.specs.Engine.{Changed, Performed}
 use Rattle.remaining.specs.Held.{withRow}
-use Rattle.rooms.specs.Places.{distinct-each, on-set}
+use Rattle.kept.specs.Kept.{distinct-each}
+use Rattle.rooms.specs.Places.{on-set}
 use Rattle.rooms.specs.Standing.{Lives, lives-found, lives-taken, lives-ok, room-is, changed-written, local-written}
 use Rattle.sending.specs.Waiting.{withQueues, number-put, number-refused, queue-is, queue-fine, queue-changed}
 

@@ -1,8 +1,8 @@
 -- A table of flags, one for each state and event, that says which of them have a move: the moves are marked one after the other.
 use Prim.Native.Nat.{ℕ, _+_, _*_, _≤_, _<_}
-use mathlib.Core.Path.{_≡_, refl, ap, sym, _∙_}
+use mathlib.Core.Path.{_≡_, refl, sym, _∙_}
 use mathlib.Core.Logic.{dite}
-use mathlib.Core.Bool.{Bool, true, false, cond, _&&_, _||_}
+use mathlib.Core.Bool.{Bool, true, false, cond, _&&_}
 use mathlib.Core.List.{List, [], _∷_, _++_}
 use native.Mathlib.Decide.{ℕ-discrete}
 use native.Mathlib.Omega.{arith}
@@ -11,7 +11,7 @@ use lib.Dec.{eqb, leb}
 use lib.ListN.{length, getD, set, length-set}
 use lib.Seq.{getD-set-same, getD-set-other}
 use Rattle.lists.specs.Lists.{any}
-use Rattle.lists.specs.Facts.{and-both}
+use Rattle.lists.specs.Facts.{and-both, any-last}
 use Rattle.programs.specs.Program.{Move}
 
 -- both are for one state and event
@@ -42,16 +42,6 @@ pub record Marked (l : List Move) (seen : List ℕ) : Type 0 where
 -- none is marked
 pub marked-none : (seen : List ℕ) → length seen ≡ 4225 → ((k : ℕ) → getD seen k 0 ≡ 0) → Marked [] seen
 marked-none seen e h = record { size = e; flags = λ t b. h (spot t) }
-
--- one more at the end of a list
-any-last : (f : Move → Bool) (l : List Move) (x : Move) → any f (l ++ (x ∷ [])) ≡ f x || any f l
-any-last f [] x = refl
-any-last f (y ∷ l) x = ap (λ (b : Bool). f y || b) (any-last f l x) ∙ swap (f y) (f x)
-  where
-    swap : (a b : Bool) → a || (b || any f l) ≡ b || (a || any f l)
-    swap true true = refl
-    swap true false = refl
-    swap false b = refl
 
 -- a flag is one state's and one event's
 same-spot : (t u : Move) → t .on ≤ 64 → u .on ≤ 64 → spot t ≡ spot u → (t .from ≡ u .from) × (t .on ≡ u .on)

@@ -1,41 +1,32 @@
 -- A program that tables are read as passes no size but, it may be, that of the kinds and of the variables a kind, and each of its ints is in range.
 use Prim.Native.Nat.{ℕ, zero, suc, _+_, _-_, _*_, _<_}
 use mathlib.Core.Path.{_≡_, refl, ap}
-use mathlib.Core.Bool.{Bool, true, false, cond, _&&_}
+use mathlib.Core.Bool.{Bool, true, false, _&&_}
 use mathlib.Core.List.{List}
 use native.Mathlib.Omega.{arith}
-use borrow.Author.Tests.{lt-ltb, le-leb, ltb-true, ltb-false}
-use lib.Dec.{leb, ltb}
-use lib.IntN.{pos, negsuc}
+use borrow.Author.Tests.{le-leb}
+use lib.Dec.{leb}
 use lib.ListN.{length, getD}
 use Rattle.lists.specs.Lists.{upTo}
 use Rattle.lists.specs.Facts.{All-getD}
 use Rattle.lists.specs.Check.{each}
 use Rattle.rows.specs.Seek.{table}
-use Rattle.values.specs.Values.{inRange}
+use Rattle.values.specs.Words.{int-in-range}
 use Rattle.programs.specs.declared.Leaf.the-variants.{Bot as bot}
 use Rattle.programs.specs.declared.Expr.the-variants.{Leaf as leaf}
 use Rattle.programs.specs.Sizes.{EXPRS}
 use Rattle.programs.specs.Program.{Program, variablesOf}
-use Rattle.tables.specs.Decode.{count, short, intOf, exprKinds, exprOf, exprIn, exprsOf}
+use Rattle.tables.specs.Decode.{count, short, exprKinds, exprOf, exprIn, exprsOf}
 use Rattle.tables.specs.Tables.{events-length, exprs-length, stmts-length, actions-length, states-length}
 use Rattle.soundness.specs.Sound.{exprRanged, sized}
 use Rattle.faults.specs.Read.{Tabled}
-
--- a word stands for an int
-int-ranged : (x : ℕ) → x < 4294967296 → inRange (intOf x) ≡ true
-int-ranged x h = go (ltb x 2147483648) refl
-  where
-    go : (t : Bool) → ltb x 2147483648 ≡ t → inRange (cond t (negsuc (2147483648 - suc x)) (pos (x - 2147483648))) ≡ true
-    go true e = lt-ltb (2147483648 - suc x) 2147483648 (omega (arith, ltb-true x 2147483648 e))
-    go false e = lt-ltb (x - 2147483648) 2147483648 (omega (arith, ltb-false x 2147483648 e))
 
 module _ (p : Program) where
   -- so an expression of any kind is in range
   expr-ranged : (k x a b : ℕ) → x < 4294967296 → exprRanged p (exprOf k x a b) .test ≡ true
   unfolding exprOf
   expr-ranged k x a b h = All-getD (λ e. exprRanged p e .test ≡ true) (leaf bot) (exprKinds x a b) k refl
-      (refl, (int-ranged x h, (refl, (refl, (refl, (refl, (refl, (refl, (refl, (refl, (refl, (refl, (refl, (refl, tt))))))))))))))
+      (refl, (int-in-range x h, (refl, (refl, (refl, (refl, (refl, (refl, (refl, (refl, (refl, (refl, (refl, (refl, tt))))))))))))))
 
   -- every row of a table of them
   rows-ranged : (l : List ℕ) (k n : ℕ) → ((i : ℕ) → getD l i 0 < 4294967296) → each (exprRanged p) (table (exprIn l) k n) .test ≡ true

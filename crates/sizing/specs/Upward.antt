@@ -1,7 +1,7 @@
 -- A test of every number from 1 to n, as a loop makes it from 1 on; and a test of some row of a table.
 use Prim.Native.Nat.{ℕ, zero, suc, _+_, _≤_, _<_}
 use mathlib.Core.Path.{_≡_, refl}
-use mathlib.Core.Bool.{Bool, true, false, _||_}
+use mathlib.Core.Bool.{Bool, true, false}
 use mathlib.Core.List.{List, [], _∷_}
 use mathlib.Core.Logic.{dite}
 use native.Mathlib.Decide.{ℕ-discrete}
@@ -35,13 +35,3 @@ module _ {A : Type 0} (f : A → Bool) (d : A) where
   pub any-none : (l : List A) (i : ℕ) → length l ≤ i → NoneOf l i → any f l ≡ false
   any-none [] i e h = refl
   any-none (x ∷ l) i e h = rw (h 0 (omega arith)) (any-none l (length l) (omega arith) (λ j b. h (suc j) (omega arith)))
-
-  -- one passes
-  pub any-one : (l : List A) (i : ℕ) → i < length l → f (getD l i d) ≡ true → any f l ≡ true
-  any-one [] i h t = absurd (omega arith)
-  any-one (x ∷ l) zero h t = rw t
-  any-one (x ∷ l) (suc i) h t = rw (any-one l i (omega arith) t) (or-true (f x))
-    where
-      or-true : (b : Bool) → b || true ≡ true
-      or-true true = refl
-      or-true false = refl

@@ -1,7 +1,7 @@
 -- What the passes over a program's lines tell together: a sound program (answer 20).
 use Prim.Native.Nat.{ℕ, _≤_}
 use mathlib.Core.Path.{_≡_, refl, sym, _∙_}
-use mathlib.Core.Bool.{Bool, true, false, not, _&&_, true≢false}
+use mathlib.Core.Bool.{Bool, true, false, _&&_}
 use borrow.Author.Tests.{eq-eqb, ne-eqb}
 use Rattle.programs.specs.Program.{Program}
 use Rattle.soundness.specs.Asked.{Asked, orderly, refers, lower, own, single, quiet, low}
@@ -10,15 +10,6 @@ use Rattle.tables.specs.declared.Program.{Program as Tables}
 use Rattle.tables.specs.Decode.{programOf}
 use Rattle.faults.specs.Faults.{meets-fault}
 use Rattle.faults.specs.Read.{Tabled, Moving}
-
--- a test's answer
-pub passed : (r t : Bool) → r ≡ t → not r ≡ false → t ≡ true
-passed true t e h = sym e
-passed false t e h = absurd (true≢false h)
-
-pub failed : (r t : Bool) → r ≡ t → not r ≡ true → t ≡ false
-failed true t e h = absurd (true≢false (sym h))
-failed false t e h = sym e
 
 -- every table of a program is what its arrays say
 pub tabled-program : (q : Tables) → Tabled (programOf q) (q .«event_types») (q .kinds) (q .«variable_of») (q .«variable_type») (q .exprs) (q .stmts) (q .inits) (q .«action_of») (q .«action_body»)

@@ -69,7 +69,7 @@ module _ (p : Program) where
 
   module _ (sound : Sound p) where
     -- THE KIND THAT A STATEMENT SERVES is there: an action or a state is of it.
-    served-there : (k s : ℕ) → serves p k s ≡ true → There (p .machines) k
+    pub served-there : (k s : ℕ) → serves p k s ≡ true → There (p .machines) k
     unfolding serves
     served-there k s e = go (or-cases (any (byAction p k s) (p .actions)) (any (byState p k s) (p .states)) e)
       where

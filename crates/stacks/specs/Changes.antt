@@ -1,64 +1,24 @@
 -- What the stores of src/lib.rt leave of a room's call stack: the frame on top popped, in another state, or with a frame called from it.
 use Prim.Native.Nat.{ℕ, _+_, _-_, _*_, _≤_, _<_}
-use mathlib.Core.Path.{_≡_, refl, ap, sym, _∙_}
-use mathlib.Core.List.{List, [], _∷_, _++_, map, reverse, reverse-cons, append-assoc, append-nil}
-use mathlib.Core.Logic.{inl, inr, ⊎-elim}
+use mathlib.Core.Path.{_≡_, ap, sym, _∙_}
+use mathlib.Core.List.{List, [], _∷_, _++_, map, reverse, reverse-cons}
 use native.Mathlib.Omega.{arith}
-use native.Mathlib.Nat.{suc-mul, zero-mul}
-use lib.ListN.{length, getD, set, length-append, length-map, length-reverse, length-set}
-use lib.Seq.{getD-set-same, getD-set-other}
+use lib.ListN.{length, getD, set, length-map, length-reverse, length-set}
+use lib.Seq.{getD-set-same}
 use Rattle.lists.specs.Lists.{All, flat}
 use Rattle.rows.specs.Pad.{pad, pad-length, pad-get, pad-snoc}
-use Rattle.rows.specs.Part.{part, put, put-length, put-out, row-set}
+use Rattle.rows.specs.Part.{part, put, put-length, row-set}
 use Rattle.rows.specs.Fill.{filled, filled-none, filled-more, filled-all}
 use Rattle.programs.specs.Program.{Program}
 use Rattle.machines.specs.Config.{Reply, Frame}
 use Rattle.machines.specs.Maps.{callMap}
 use Rattle.configs.specs.Encode.{mapCodes}
-use Rattle.configs.specs.Reversed.{All-reverse}
+use Rattle.lists.specs.Keep.{All-reverse, flat-snoc, flat-length}
 use Rattle.maps.specs.Maps.{Tables, mapAt, called, called-length}
-use Rattle.engine.specs.Holding.{Elsewhere, StackHeld}
+use Rattle.engine.specs.Holding.{StackHeld, untouched, touched, touched-place, touched-run}
 use Rattle.parts.specs.Parts.{Any}
-use Rattle.stacks.specs.Runs.{part-put-inside, pad-last, pad-less, pad-run, pad-less-run}
+use Rattle.rows.specs.Runs.{part-put-inside, pad-last, pad-less, pad-run, pad-less-run}
 use Rattle.stacks.specs.Stacks.{Deep, Framed, StackBecomes, Callable, CallAsked, popped, stepped, entered, all-narrow, top-is, top-state, top-map, shallow}
-
--- OFF THE ROOM
--- a store in the room
-pub elsewhere-set : (k w : ℕ) (xs : List ℕ) (j v : ℕ) → j < w → Elsewhere k w xs (set xs (k * w + j) v)
-elsewhere-set k w xs j v h = record {
-  size = length-set xs (k * w + j) v;
-  same = λ i o. getD-set-other xs (k * w + j) i v 0 (λ e. ⊎-elim (λ (u : i < k * w). omega arith) (λ (u : k * w + w ≤ i). omega arith) o);
-}
-
--- a store of the room's one place
-pub elsewhere-one : (k : ℕ) (xs : List ℕ) (v : ℕ) → Elsewhere k 1 xs (set xs k v)
-elsewhere-one k xs v = record {
-  size = length-set xs k v;
-  same = λ i o. getD-set-other xs k i v 0 (λ e. ⊎-elim (λ (u : i < k * 1). omega arith) (λ (u : k * 1 + 1 ≤ i). omega arith) o);
-}
-
--- a run of stores in the room
-pub elsewhere-put : (k w : ℕ) (xs : List ℕ) (c : ℕ) (r : List ℕ) → c + length r ≤ w → k * w + w ≤ length xs → Elsewhere k w xs (put (k * w + c) r xs)
-elsewhere-put k w xs c r h i = record {
-  size = put-length (k * w + c) r xs (omega arith);
-  same = λ j o. put-out (k * w + c) r xs j 0 (omega arith) (⊎-elim (λ (u : j < k * w). inl (omega arith)) (λ (u : k * w + w ≤ j). inr (omega arith)) o);
-}
-
--- no store
-pub elsewhere-none : (k w : ℕ) (xs : List ℕ) → Elsewhere k w xs xs
-elsewhere-none k w xs = record { size = refl; same = λ j o. refl }
-
--- LISTS OF ROWS
-module _ {A B : Type 0} (g : A → List B) where
-  -- one more row
-  flat-snoc : (l : List A) (x : A) → flat g (l ++ x ∷ []) ≡ flat g l ++ g x
-  flat-snoc [] x = append-nil (g x)
-  flat-snoc (y ∷ l) x = rw (flat-snoc l x) (sym (append-assoc (g y) (flat g l) (g x)))
-
-  -- how long they are
-  flat-length : (w : ℕ) (l : List A) → All (λ x. length (g x) ≡ w) l → length (flat g l) ≡ length l * w
-  flat-length w [] h = sym (zero-mul w)
-  flat-length w (x ∷ l) h = length-append (g x) (flat g l) ∙ omega (arith, h .0, flat-length w l (h .1), suc-mul (length l) w)
 
 -- the states of a stack, the first frame first
 abbrev statesOf : List Frame → List ℕ
@@ -201,18 +161,18 @@ module _ (k : ℕ) (depths states maps : List ℕ) (a : Deep k depths states map
   pop-leaves maps' q = rw q (
       let zeros : length (pad {A = ℕ} 0 64 []) ≡ 64 = pad-length 0 64 [] (omega arith) in
       record {
-        depths-off = elsewhere-one k depths (getD depths k 0 - 1);
-        states-off = elsewhere-set k 8 states (getD depths k 0 - 1) 0 (omega arith);
-        maps-off = elsewhere-put k 512 maps ((getD depths k 0 - 1) * 64) (pad 0 64 []) (omega arith) (omega arith);
+        depths-off = touched-place k (getD depths k 0 - 1) depths;
+        states-off = touched k 8 (getD depths k 0 - 1) 0 states (omega arith);
+        maps-off = touched-run k 512 ((getD depths k 0 - 1) * 64) (pad 0 64 []) maps (omega arith) (omega arith);
         becomes = λ p _ f γ fr h. pop-held k depths states maps p f γ fr h;
       })
 
   -- step_frame
   pub step-leaves : (n : ℕ) → StackBecomes k depths states maps Any (stepped n) depths (set states (k * 8 + (getD depths k 0 - 1)) n) maps
   step-leaves n = record {
-    depths-off = elsewhere-none k 1 depths;
-    states-off = elsewhere-set k 8 states (getD depths k 0 - 1) n (omega arith);
-    maps-off = elsewhere-none k 512 maps;
+    depths-off = untouched;
+    states-off = touched k 8 (getD depths k 0 - 1) n states (omega arith);
+    maps-off = untouched;
     becomes = λ p _ f γ fr h. step-held k depths states maps p f γ fr h n;
   }
 
@@ -230,9 +190,9 @@ call-leaves says kinds flags k events depths states maps a n maps' q =
     let o = q (a .program) (t .entries) (t .exits) (t .tables) (t .counted)
     ∙ ap (λ (b : ℕ). put b (called (a .program) (getD states (k * 8 + (getD depths k 0 - 1)) 0) (mapAt (a .program) (k * 512 + (getD depths k 0 - 1) * 64) maps)) maps) e in
     record {
-      depths-off = elsewhere-one k depths (getD depths k 0 + 1);
-      states-off = elsewhere-set k 8 states (getD depths k 0) n (a .left);
-      maps-off = rw o (elsewhere-put k 512 maps ((getD depths k 0 - 1) * 64 + 64) _ (omega (arith, l, a .left)) (omega arith));
+      depths-off = touched-place k (getD depths k 0 + 1) depths;
+      states-off = touched k 8 (getD depths k 0) n states (a .left);
+      maps-off = rw o (touched-run k 512 ((getD depths k 0 - 1) * 64 + 64) _ maps (omega (arith, l, a .left)) (omega arith));
       becomes = λ p c f γ fr h. call-held k depths states maps p f γ fr h n maps' (omega (arith, h .depth, a .left)) (q p (c .entries) (c .exits) (c .tables) (c .counted));
     }
 

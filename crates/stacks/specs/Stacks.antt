@@ -24,7 +24,7 @@ use Rattle.configs.specs.Flat.{Flat, Sized, roomAt}
 use Rattle.configs.specs.declared.Room.{Room}
 use Rattle.maps.specs.Maps.{Tables, mapAt}
 use Rattle.engine.specs.Holding.{Elsewhere, StackHeld}
-use Rattle.stacks.specs.Runs.{pad-fits, part-part}
+use Rattle.rows.specs.Runs.{pad-fits, part-part}
 
 -- WHAT IS ASKED
 -- the lists have their places, and room k's stack has a frame

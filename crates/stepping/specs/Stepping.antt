@@ -3,6 +3,7 @@ use Prim.Native.Nat.{ℕ, _<_}
 use mathlib.Core.Path.{_≡_, refl, ap, sym, _∙_, subst}
 use mathlib.Core.Bool.{Bool, true, false, not, cond, true≢false}
 use mathlib.Core.List.{List}
+use borrow.Author.Tests.{not-false}
 use Rattle.lists.specs.Facts.{not-true}
 use Rattle.lists.specs.Tells.{Tells}
 use Rattle.answers.specs.declared.Answer.the-variants.{NotAccepted}
@@ -13,13 +14,12 @@ use Rattle.soundness.specs.Sound.{Sound, sound, sound-is}
 use Rattle.tables.specs.declared.Program.{Program as Tables}
 use Rattle.tables.specs.Decode.{programOf, variablesOf}
 use Rattle.index.specs.Index.{Said, Placed}
-use Rattle.marks.specs.Marks.{Heights, Served}
 use Rattle.configs.specs.declared.Config.{Config as Held}
 use Rattle.configs.specs.Decode.{configOf}
 use Rattle.configs.specs.Flat.{Flat, Sized, held, flatConfig}
 use Rattle.engine.specs.declared.Outcome.{Outcome}
 use Rattle.engine.specs.Engine.{Performed}
-use Rattle.accepting.specs.Asked.{Told, IsOne}
+use Rattle.accepting.specs.Asked.{IsOne}
 use Rattle.heads.specs.Asked.{StepAsked}
 use Rattle.handed.specs.declared.Stepped.{Stepped}
 use Rattle.handed.specs.Handed as handed
@@ -28,6 +28,11 @@ use Rattle.handed.specs.Handed.{Fit, fit-is, refusing, after, stepOf}
 -- what a step leaves
 abbrev pub stepped : Held → Outcome → Stepped
 stepped c o = record { config = c; outcome = o }
+
+-- WHAT A STEP LEAVES IN THE ARRAYS: they hold what the step of what they held leaves, and the answer is its answer
+pub record Left (q : Tables) (f : Flat) (i : Live) (w : ℕ) (o : Outcome) (g : Flat) : Type 0 where
+  pub sized : Sized g
+  pub done : stepped (held g) o ≡ stepOf q (held f) i w
 
 -- a test that does not hold
 not-told : {b : Bool} {P : Type 0} → Tells b P → (P → ⊥) → b ≡ false
@@ -71,36 +76,12 @@ pub left-sized : (f g : Flat) (o : Outcome) (x : definition.Outcome) → Sized f
 left-sized f g o (took R d) s k = k .1 .0
 left-sized f g o (refused a) s k = subst Sized (sym (k .1)) s
 
--- a test that does not fail
-pub not-false : (b : Bool) → not b ≡ false → b ≡ true
-not-false true e = refl
-not-false false e = absurd (true≢false e)
-
 -- the test that passed
 pub passed : {P : Type 0} (b : Bool) → Tells b P → not b ≡ false → P
 passed b t e = t .holds (not-false b e)
 
--- what the tests and the step are asked of the program's tables
+-- what the step is asked of the program's tables
 module _ (q : Tables) (s : Sound (programOf q)) where
-  pub told-tables : {heights served : List ℕ} → Heights (programOf q) heights → Served (programOf q) served
-      → Told (q .«event_types») (q .«variable_of») (q .«variable_type») (q .stmts) (q .«action_of») (q .«state_of») heights served (q .kinds) (programOf q)
-  told-tables h k = record {
-    sound = s;
-    events-are = refl;
-    variables-are = refl;
-    inits = q .inits;
-    stmts-are = refl;
-    bodies = q .«action_body»;
-    actions-are = refl;
-    entries = q .«state_entry»;
-    exits = q .«state_exit»;
-    flags = q .defers;
-    states-are = refl;
-    machines-are = refl;
-    tall = h;
-    serving = k;
-  }
-
   abbrev pub step-tables : (f : Flat) {says places : List ℕ} {w : ℕ} → Sized f → IsOne (programOf q) f → Said (programOf q .steps) (programOf q .calls) (programOf q .acts) says
       → ((types : List ℕ) → Placed (variablesOf (q .«variable_of») types) places) → w < 256
       → StepAsked (q .exprs) (q .stmts) (q .inits) (q .«event_types») (q .«variable_of») (q .«variable_type») (q .«action_of») (q .«action_body») (q .«state_of») (q .«state_entry») (q .«state_exit») (q .defers) says places f w

@@ -9,13 +9,49 @@ use values::Live;
 ghost use mathlib.Core.Path.{_≡_};
 ghost use Rattle.soundness.specs.Sound.{Sound};
 ghost use Rattle.tables.specs.Decode.{programOf};
+ghost use Rattle.configs.specs.Flat.{flat};
+ghost use Rattle.admitting.specs.Admitting.{Laid};
 ghost use Rattle.handed.specs.Handed.{stepOf};
+ghost use Rattle.stepping.specs.Stepping.{Left};
 
-// The step of a sound program.
-fn step_sound(program: Program, c: Config, machine: Live, bits: u8) -> Stepped
-    requires { ⌜ Sound (programOf program) ⌝ }
-    ensures { λ r. ⌜ r ≡ stepOf program c machine bits ⌝ }
+// The step of the configuration that lies in the engine's arrays, by a sound program: 20 where it is not one.
+fn step_laid(
+    program: Program,
+    ids: &mut [u32; Program::ROOMS],
+    kinds: &mut [u8; Program::ROOMS],
+    depths: &mut [usize; Program::ROOMS],
+    states: &mut [u8; Program::ROOMS * Program::STACK],
+    maps: &mut [u8; Program::ROOMS * Program::STACK * Program::EVENTS],
+    values: &mut [u64; Program::ROOMS * (Program::VARIABLES + 3)],
+    counts: &mut [usize; Program::ROOMS],
+    parts: &mut [u16; Program::ROOMS * Program::ROW],
+    held: &mut [u64; Program::ROOMS],
+    waiting: &mut [usize; Program::ROOMS],
+    pairs: &mut [u64; Program::ROOMS * Program::QUEUE],
+    next: &mut u32,
+    machine: Live,
+    bits: u8,
+) -> Outcome
+    requires { ⌜ Laid program (flat (now ids) (now kinds) (now depths) (now states) (now maps) (now values) (now counts) (now parts) (now held) (now waiting) (now pairs) (now next)) ⌝ }
+    ensures { λ r. ⌜ Left program (flat (now (ids .entry)) (now (kinds .entry)) (now (depths .entry)) (now (states .entry)) (now (maps .entry)) (now (values .entry)) (now (counts .entry)) (now (parts .entry)) (now (held .entry)) (now (waiting .entry)) (now (pairs .entry)) (now (next .entry))) machine bits r (flat (now (ids .exit)) (now (kinds .exit)) (now (depths .exit)) (now (states .exit)) (now (maps .exit)) (now (values .exit)) (now (counts .exit)) (now (parts .exit)) (now (held .exit)) (now (waiting .exit)) (now (pairs .exit)) (now (next .exit))) ⌝ }
 {
+    if !admitting::admitted(
+        program,
+        ids,
+        kinds,
+        depths,
+        states,
+        maps,
+        values,
+        counts,
+        parts,
+        held,
+        waiting,
+        pairs,
+        *next,
+    ) {
+        return Outcome::Refused(Answer::NotAccepted);
+    }
     let exprs = program.exprs;
     let stmts = program.stmts;
     let inits = program.inits;
@@ -29,6 +65,45 @@ fn step_sound(program: Program, c: Config, machine: Live, bits: u8) -> Stepped
     let exits = program.state_exit;
     let defers = program.defers;
     let moves = program.moves;
+    let says = index::say(&moves, program.steps, program.calls, program.acts);
+    let places = index::place_all(&owners);
+    dispatch::step_on(
+        &exprs,
+        &stmts,
+        &inits,
+        &types,
+        &owners,
+        &vartypes,
+        &doers,
+        &bodies,
+        &homes,
+        &entries,
+        &exits,
+        &defers,
+        &says,
+        &places,
+        ids,
+        kinds,
+        depths,
+        states,
+        maps,
+        values,
+        counts,
+        parts,
+        held,
+        waiting,
+        pairs,
+        next,
+        machine.0,
+        bits as u64,
+    )
+}
+
+// The step of a sound program.
+fn step_sound(program: Program, c: Config, machine: Live, bits: u8) -> Stepped
+    requires { ⌜ Sound (programOf program) ⌝ }
+    ensures { λ r. ⌜ r ≡ stepOf program c machine bits ⌝ }
+{
     let mut ids: [u32; Program::ROOMS] = [0; Program::ROOMS];
     let mut kinds: [u8; Program::ROOMS] = [0; Program::ROOMS];
     let mut depths: [usize; Program::ROOMS] = [0; Program::ROOMS];
@@ -57,54 +132,9 @@ fn step_sound(program: Program, c: Config, machine: Live, bits: u8) -> Stepped
         &mut waiting,
         &mut pairs,
     );
-    let heights = marks::heights(&stmts);
-    let served = marks::served(&stmts, &doers, &bodies, &homes, &entries, &exits);
     let mut next = c.next;
-    if !accepting::accepted_on(
-        &types,
-        &owners,
-        &vartypes,
-        &stmts,
-        &doers,
-        &homes,
-        &heights,
-        &served,
-        program.kinds,
-        &ids,
-        &kinds,
-        &depths,
-        &states,
-        &maps,
-        &values,
-        &counts,
-        &parts,
-        &held,
-        &waiting,
-        &pairs,
-        next,
-    ) {
-        return Stepped {
-            config: c,
-            outcome: Outcome::Refused(Answer::NotAccepted),
-        };
-    }
-    let says = index::say(&moves, program.steps, program.calls, program.acts);
-    let places = index::place_all(&owners);
-    let outcome = dispatch::step_on(
-        &exprs,
-        &stmts,
-        &inits,
-        &types,
-        &owners,
-        &vartypes,
-        &doers,
-        &bodies,
-        &homes,
-        &entries,
-        &exits,
-        &defers,
-        &says,
-        &places,
+    let outcome = step_laid(
+        program,
         &mut ids,
         &mut kinds,
         &mut depths,
@@ -117,8 +147,8 @@ fn step_sound(program: Program, c: Config, machine: Live, bits: u8) -> Stepped
         &mut waiting,
         &mut pairs,
         &mut next,
-        machine.0,
-        bits as u64,
+        machine,
+        bits,
     );
     let config = lifting::lift(
         next,

@@ -230,7 +230,7 @@ module _ (p : Program) (f : Flat) (k : ℕ) (m : Machine) (sound : Sound p) (s :
       -- WHAT `eval` GIVES, where the j lowest of the choice's bits w are taken
       pub evaluates : evaluated exprs places (f .values) (k * 19) e u ≡ codeOf (eval p (m .this) (m .loc) w j e) + (w / 2 ^ (j + stars (tree p e))) * REST
       evaluates = evaluated-is p exprs places (f .values) (k * 19) (m .this) (m .loc) (m .loc .kind) e w j (sym same) (agrees places here)
-          (own-tree p (m .loc .kind) sound (s .ok .loc-ok .kind-there) h e head-serves of) bits
+          (own-tree p (m .loc .kind) sound h e head-serves of) bits
 
       -- below, the number of the definition's value
       pub gives-code : evaluated exprs places (f .values) (k * 19) e u % REST ≡ codeOf (eval p (m .this) (m .loc) w j e)

@@ -15,8 +15,8 @@ use Rattle.configs.specs.Encode.{heldCode, taken}
 use Rattle.configs.specs.Flat.{Flat, room-path}
 use Rattle.parts.specs.Parts.{tidied, awaits}
 use Rattle.engine.specs.Engine.{Changed}
-use Rattle.engine.specs.Holding.{Elsewhere, RowBecomes}
-use Rattle.remaining.specs.Held.{untouched, touched-place, changed}
+use Rattle.engine.specs.Holding.{Elsewhere, RowBecomes, untouched, touched-place}
+use Rattle.remaining.specs.Held.{changed}
 use Rattle.statements.specs.Heading.{RowAsked, row-kept, row-then}
 
 -- the local part with other values

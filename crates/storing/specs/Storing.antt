@@ -28,8 +28,7 @@ use Rattle.evaluation.specs.Evaluated.{REST, evaluated}
 use Rattle.engine.specs.declared.Outcome.{Outcome}
 use Rattle.engine.specs.declared.Outcome.the-variants.{Took, Refused}
 use Rattle.engine.specs.Engine.{Acted}
-use Rattle.engine.specs.Holding.{RowBecomes}
-use Rattle.remaining.specs.Held.{touched}
+use Rattle.engine.specs.Holding.{RowBecomes, touched}
 use Rattle.stored.specs.Stored.{place-own, place-there, variables-count, variables-16, variable-set, head-serves}
 use Rattle.statements.specs.Heading.{RowAsked, PartAsked, PendingLeft, actOf, row-then, asked-said}
 use Rattle.statements.specs.Conditions.{TestAsked, test-code, test-value}

@@ -5,12 +5,12 @@ use Prim.Native.Nat.{ℕ, _+_, _-_, _*_, min}
 use mathlib.Core.Bool.{Bool, not}
 use mathlib.Core.List.{List, [], _∷_, map}
 use lib.Dec.{eqb}
-use lib.IntN.{ℤ, pos, _-ℤ_}
 use lib.ListN.{getD}
 use Rattle.lists.specs.Lists.{at, keep}
 use Rattle.rows.specs.Seek.{table}
 use Rattle.values.specs.declared.Ty.{Ty}
 use Rattle.values.specs.declared.Ty.the-variants.{Void as void, Bool as bool, Int as int, Event as event, Id as id}
+use Rattle.values.specs.Words.{intOf}
 use Rattle.values.specs.declared.Unary.the-variants.{Not as not′, Neg as neg}
 use Rattle.values.specs.declared.Binary.the-variants.{Add as add, Sub as sub, And as and, Or as or}
 use Rattle.programs.specs.declared.Leaf.the-variants.{Bot as bot, Int as intVal, Bool as boolVal, Var as var, This as this, Msg as msg, Arg as arg, Star as star}
@@ -63,10 +63,6 @@ unfoldable pub variablesOf : List ℕ → List ℕ → List Variable
 variablesOf kinds types = table (variableIn kinds types) 1 (count (KINDS * VARIABLES) kinds)
 
 -- EXPRESSIONS
--- the int that a word stands for
-abbrev pub intOf : ℕ → ℤ
-intOf x = pos x -ℤ pos 2147483648
-
 -- each kind of expression at its number, with its value x or its parts a and b
 abbrev pub exprKinds : ℕ → ℕ → ℕ → List Expr
 exprKinds x a b =

@@ -1,2 +1,0 @@
--- laws that the proofs of the functions share
-pub mod Words

@@ -4,7 +4,7 @@ ghost use Prim.Native.Nat.{min};
 ghost use Rattle.lists.specs.Lists.{at};
 ghost use Rattle.programs.specs.declared.Leaf.the-variants.{Bot as bot};
 ghost use Rattle.programs.specs.declared.Expr.the-variants.{Leaf as leaf};
-ghost use Rattle.tables.specs.Decode.{intOf, exprOf, exprsOf, headOf, headAt};
+ghost use Rattle.tables.specs.Decode.{exprOf, exprsOf, headOf, headAt};
 use programs::Expr;
 use programs::Leaf;
 use tables::Head;
@@ -12,19 +12,13 @@ use tables::Kind;
 use tables::Program;
 use values::Binary;
 use values::Unary;
+use values::int_of;
 
 // A number that does not fit 16 bits reads as the largest that does.
 fn short(x: u32) -> u16
     ensures { λ r. ⌜ r ≡ min x 65535 ⌝ }
 {
     if x <= 65535 { x as u16 } else { 65535 }
-}
-
-// The int that a word stands for: the word less 2147483648.
-fn int_of(x: u32) -> i32
-    ensures { λ r. ⌜ r ≡ intOf x ⌝ }
-{
-    (x as i64 - 2147483648) as i32
 }
 
 // The expression of kind k, with its value x or its parts a and b.

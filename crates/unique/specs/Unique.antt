@@ -1,6 +1,6 @@
 -- Document 01, "How tight the contracts are": "That two results satisfying it are equal is proved". A theorem for each public function, by the form of its
 -- contract.
-use Prim.Native.Nat.{ℕ, _+_, _*_, _/_, _%_, _≤_, _<_}
+use Prim.Native.Nat.{ℕ, _+_, _/_, _%_, _≤_, _<_}
 use mathlib.Core.Path.{_≡_, refl, sym, _∙_}
 use mathlib.Core.Logic.{dite}
 use mathlib.Core.Bool.{Bool, true, false, true≢false}
@@ -64,9 +64,3 @@ place-all-one variables r s h k = ext-getD 0 r s (h .size ∙ sym (k .size)) (λ
     go : (x : ℕ) (b : Bool) → Tells b (There (length variables) x) → getD r x 0 ≡ getD s x 0
     go x true t = let y = t .holds refl in h .place x y ∙ sym (k .place x y)
     go x false t = let y : There (length variables) x → ⊥ = λ a. true≢false (sym (t .test a)) in h .none x y ∙ sym (k .none x y)
-
--- TESTS: two Bools that decide one fact are equal
-pub one-test : (a b : Bool) {P : Type 0} → Tells a P → Tells b P → a ≡ b
-one-test true b s t = sym (t .test (s .holds refl))
-one-test false true s t = s .test (t .holds refl)
-one-test false false s t = refl

@@ -2,6 +2,7 @@
 ghost use mathlib.Core.Path.{_≡_};
 ghost use lib.IntN.{_+ℤ_, _-ℤ_, negℤ};
 ghost use Rattle.values.specs.Values.{checked, apply1, apply2, suits};
+ghost use Rattle.values.specs.Words.{intOf};
 
 // A live machine's number: the wrapping keeps it apart from a machine kind's.
 pub struct Live(pub u32);
@@ -197,4 +198,11 @@ pub fn suits(t: Ty, v: Value) -> bool
             Ty::Id => true,
         },
     }
+}
+
+// The int that a word stands for: the word less 2147483648.
+pub fn int_of(x: u32) -> i32
+    ensures { λ r. ⌜ r ≡ intOf x ⌝ }
+{
+    (x as i64 - 2147483648) as i32
 }

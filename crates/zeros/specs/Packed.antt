@@ -12,11 +12,6 @@ use Rattle.rows.specs.Part.{part, part-length, part-get}
 use Rattle.configs.specs.Decode.{downTo}
 use Rattle.zeros.specs.Zeros.{Zeros}
 
--- how many are kept last element first
-pub down-length : {A : Type 0} (f : ℕ → A) (n : ℕ) → length (downTo f n) ≡ n
-down-length f zero = refl
-down-length f (suc n) = ap suc (down-length f n)
-
 -- what is kept last element first, in reverse, is the list's first elements
 pub reverse-down : (n : ℕ) (xs : List ℕ) → n ≤ length xs → reverse (downTo (λ k. getD xs k 0) n) ≡ take n xs
 reverse-down zero xs h = refl

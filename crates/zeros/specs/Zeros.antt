@@ -1,27 +1,13 @@
--- A run of zeros in a list, and the loop that looks for one: it keeps the greatest number that it has seen. Tests that are known to hold or not to hold.
+-- A run of zeros in a list, and the loop that looks for one: it keeps the greatest number that it has seen.
 use Prim.Native.Nat.{ℕ, _+_, _≤_, _<_}
-use mathlib.Core.Path.{_≡_, refl, sym, _∙_}
+use mathlib.Core.Path.{_≡_, refl}
 use mathlib.Core.Logic.{dite}
-use mathlib.Core.Bool.{Bool, true, false, true≢false}
 use mathlib.Core.List.{List}
 use native.Mathlib.Omega.{arith}
 use native.Mathlib.Decide.{ℕ-discrete}
 use lib.Dec.{eqb}
 use lib.ListN.{length, getD}
 use Rattle.lists.specs.Tells.{Tells, form, equal}
-
--- TESTS THAT ARE KNOWN
--- what holds is told by true,
-pub granted : {P : Type 0} → P → Tells true P
-granted p = record { holds = λ e. p; test = λ q. refl }
-
--- what does not hold by false,
-pub refuted : {P : Type 0} → (P → ⊥) → Tells false P
-refuted n = record { holds = λ e. absurd (true≢false (sym e)); test = λ p. absurd (n p) }
-
--- and what a test that was false tells of does not hold.
-pub denied : {b : Bool} {P : Type 0} → Tells b P → b ≡ false → P → ⊥
-denied t e p = true≢false (sym (t .test p) ∙ e)
 
 -- what holds of each number below n, and of n, holds of each below n + 1
 pub each-more : (P : ℕ → Type 0) (n : ℕ) → ((k : ℕ) → k < n → P k) → P n → (k : ℕ) → k < n + 1 → P k

@@ -3,10 +3,11 @@ use mathlib.Core.Path.{_≡_, refl}
 use Prim.Native.Nat.{_-_, _≤_}
 use native.Mathlib.Omega.{arith}
 use borrow.Author.Needs.{needs}
+use borrow.Author.Tests.{not-true, not-false}
 use Rattle.zeros.specs.Zeros.{each-more}
 use Rattle.programs.specs.Program.{Program}
 use Rattle.configs.specs.Flat.{flat}
-use Rattle.accepting.specs.Asked.{Told, not-false, not-true, Before, not-one-low, not-one-high, not-one-distinct, not-one-room, one}
+use Rattle.accepting.specs.Asked.{Told, Before, not-one-low, not-one-high, not-one-distinct, not-one-room, one}
 use Rattle.accepting.proofs.accepted_on.Statement.{statement}
 use Rattle.accepting.proofs.accepted_on.Tie as tie
 
@@ -28,7 +29,7 @@ distinct-ok-requires c κs = search needs
 returns-3 : tie.Need-returns-3 Inv-loop μ-loop
 returns-3 c =
     let a = c .before .before .before .before .args in
-    λ p t. not-one-distinct p _ (c .before .distinct-ok .ensures p (flat (a .ids .now) (a .kinds .now) (a .depths .now) (a .states .now) (a .maps .now) (a .values .now) (a .counts .now) (a .parts .now) (a .held .now) (a .waiting .now) (a .pairs .now) (a .next)) refl) (not-true (c .if3 .taken))
+    λ p t. not-one-distinct p _ (c .before .distinct-ok .ensures p (flat (a .ids .now) (a .kinds .now) (a .depths .now) (a .states .now) (a .maps .now) (a .values .now) (a .counts .now) (a .parts .now) (a .held .now) (a .waiting .now) (a .pairs .now) (a .next)) refl) (not-true _ (c .if3 .taken))
 
 loop-holds : tie.Need-loop-holds Inv-loop μ-loop
 loop-holds c = (omega arith, λ p t j h. absurd (omega arith))
@@ -37,7 +38,7 @@ room-ok-requires : tie.Need-room-ok-requires Inv-loop μ-loop
 room-ok-requires c κs = (c .before .before .before .before .before .before .pre, omega (arith, c .loop-test .taken))
 
 returns-4 : tie.Need-returns-4 Inv-loop μ-loop
-returns-4 c = λ p t. not-one-room p _ _ (omega (arith, c .before .before .loop-test .taken)) (c .before .room-ok .ensures p t) (not-true (c .if4 .taken))
+returns-4 c = λ p t. not-one-room p _ _ (omega (arith, c .before .before .loop-test .taken)) (c .before .room-ok .ensures p t) (not-true _ (c .if4 .taken))
 
 add-k : tie.Need-add-k Inv-loop μ-loop
 add-k c = search needs
@@ -48,7 +49,7 @@ loop-less c = search needs
 loop-again : tie.Need-loop-again Inv-loop μ-loop
 loop-again c = (
   omega (arith, c .before .before .loop-test .taken),
-  λ p t. each-more _ _ (c .before .before .before .loop .inv .1 p t) (c .before .room-ok .ensures p t .holds (not-false (c .if4 .left))),
+  λ p t. each-more _ _ (c .before .before .before .loop .inv .1 p t) (c .before .room-ok .ensures p t .holds (not-false _ (c .if4 .left))),
 )
 
 returns-5 : tie.Need-returns-5 Inv-loop μ-loop
@@ -57,7 +58,7 @@ returns-5 c =
     let last : loop .loop .k ≡ 32 = omega (arith, c .loop-test .left, loop .loop .inv .0) in
     let distinct = loop .before .before in
     let a = distinct .before .before .before .args in
-    λ p t. one p _ (distinct .before .before .if1 .left) (distinct .before .if2 .left) (distinct .distinct-ok .ensures p (flat (a .ids .now) (a .kinds .now) (a .depths .now) (a .states .now) (a .maps .now) (a .values .now) (a .counts .now) (a .parts .now) (a .held .now) (a .waiting .now) (a .pairs .now) (a .next)) refl) (not-false (loop .before .if3 .left)) (rw last at (loop .loop .inv .1 p t))
+    λ p t. one p _ (distinct .before .before .if1 .left) (distinct .before .if2 .left) (distinct .distinct-ok .ensures p (flat (a .ids .now) (a .kinds .now) (a .depths .now) (a .states .now) (a .maps .now) (a .values .now) (a .counts .now) (a .parts .now) (a .held .now) (a .waiting .now) (a .pairs .now) (a .next)) refl) (not-false _ (loop .before .if3 .left)) (rw last at (loop .loop .inv .1 p t))
 
 pub accepted-on-spec : {M : Type 1} → statement M
 accepted-on-spec =

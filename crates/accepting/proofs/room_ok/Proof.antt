@@ -1,6 +1,5 @@
 -- `accepting::room_ok` meets its contract, free or live.
 use native.Mathlib.Omega.{arith}
-use borrow.Author.Needs.{needs}
 use Rattle.configs.specs.Flat.{flat}
 use Rattle.accepting.specs.Rooms.{free-fit, fit-free}
 use Rattle.accepting.proofs.room_ok.Statement.{statement}

@@ -6,7 +6,7 @@ use Prim.Native.Nat.{_+_, _-_, _≤_}
 use Rattle.rows.specs.Part.{part}
 use Rattle.programs.specs.Program.{Program}
 use Rattle.tables.specs.Decode.{eventsOf}
-use Rattle.checked_values.specs.Tests.{yes, no}
+use Rattle.lists.specs.Tells.{granted, refuted}
 use Rattle.checked_queues.specs.Queues.{Apart, apart-none, apart-more, apart-pair, apart-once}
 use native.Mathlib.Omega.{arith}
 use borrow.Author.Needs.{needs}
@@ -41,7 +41,7 @@ returns : tie.Need-returns Inv-loop μ-loop
 returns c =
     let l = c .before .before .before .before .loop in
     let a = c .before .before .before .before .before .args in
-    λ p q. no (λ r. true≢false (sym (c .before .pair-ok .ensures p q .test (apart-pair p (a .next) (a .b) (a .n) (l .k - 1) (l .k) (a .pairs .now) (omega arith) (omega arith) (omega arith) r)) ∙ not-true _ (c .if1 .taken)))
+    λ p q. refuted (λ r. true≢false (sym (c .before .pair-ok .ensures p q .test (apart-pair p (a .next) (a .b) (a .n) (l .k - 1) (l .k) (a .pairs .now) (omega arith) (omega arith) (omega arith) r)) ∙ not-true _ (c .if1 .taken)))
 
 add-holds : tie.Need-add-holds Inv-loop μ-loop
 add-holds c = search needs
@@ -56,7 +56,7 @@ returns-2 : tie.Need-returns-2 Inv-loop μ-loop
 returns-2 c =
     let l = c .before .before .before .before .before .before .loop in
     let a = c .before .before .before .before .before .before .before .args in
-    λ p q. no (λ r. true≢false (sym (c .if2 .taken) ∙ c .before .holds .ensures ∙ apart-once p (a .next) (a .b) (a .n) (l .k - 1) (l .k) (a .pairs .now) (omega arith) (omega arith) (omega arith) r))
+    λ p q. refuted (λ r. true≢false (sym (c .if2 .taken) ∙ c .before .holds .ensures ∙ apart-once p (a .next) (a .b) (a .n) (l .k - 1) (l .k) (a .pairs .now) (omega arith) (omega arith) (omega arith) r))
 
 loop-less : tie.Need-loop-less Inv-loop μ-loop
 loop-less c = search needs
@@ -73,7 +73,7 @@ returns-3 c =
     let a = c .before .before .args in
     let b : a .b + l .k ≡ a .b = omega arith in
     let n : a .n - l .k ≡ a .n = omega arith in
-    λ p q. yes (rw (b, n) at (l .inv .1 p q))
+    λ p q. granted (rw (b, n) at (l .inv .1 p q))
 
 pub pairs-ok-spec : {M : Type 1} → statement M
 pairs-ok-spec =

@@ -1,7 +1,7 @@
 -- `checked_queues::queue_ok` meets its contract: the count, then the pairs, and then the zeros decide. Assumes nothing.
 use mathlib.Core.Path.{sym, _∙_}
 use mathlib.Core.Bool.{true≢false}
-use Rattle.checked_values.specs.Tests.{no}
+use Rattle.lists.specs.Tells.{refuted}
 use Rattle.checked_queues.specs.Queues.{told-many, told-pairs, told-zeros}
 use borrow.Author.Needs.{needs}
 use Rattle.checked_queues.proofs.queue_ok.Statement.{statement}
@@ -16,7 +16,7 @@ element-copy-out-n c = search needs
 returns : tie.Need-returns
 returns c =
     let a = c .before .before .args in
-    λ p q. no (told-many p (a .next) _ (a .pairs .now) (a .i) (c .before .before .pre .0) (c .before .before .pre .1) (c .if1 .taken))
+    λ p q. refuted (told-many p (a .next) _ (a .pairs .now) (a .i) (c .before .before .pre .0) (c .before .before .pre .1) (c .if1 .taken))
 
 mul-b : tie.Need-mul-b
 mul-b c = search needs
@@ -40,7 +40,7 @@ returns-3 : tie.Need-returns-3
 returns-3 c =
     let s = c .before .before .before .before in
     let a = s .args in
-    λ p q. no (λ k. true≢false (sym (c .before .pairs-ok .ensures p q .test (told-pairs p (a .next) _ (a .pairs .now) (a .i) (s .pre .0) (s .pre .1) k)) ∙ c .if2 .left))
+    λ p q. refuted (λ k. true≢false (sym (c .before .pairs-ok .ensures p q .test (told-pairs p (a .next) _ (a .pairs .now) (a .i) (s .pre .0) (s .pre .1) k)) ∙ c .if2 .left))
 
 pub queue-ok-spec : {M : Type 1} → statement M
 queue-ok-spec =

@@ -2,8 +2,7 @@
 use mathlib.Core.Path.{sym, _∙_}
 use mathlib.Core.Bool.{true≢false}
 use borrow.Author.Needs.{needs}
-use Rattle.lists.specs.Tells.{form, isnt}
-use Rattle.zeros.specs.Zeros.{granted, refuted}
+use Rattle.lists.specs.Tells.{form, isnt, granted, refuted}
 use Rattle.checked_rows.proofs.head_fits.Statement.{statement}
 use Rattle.checked_rows.proofs.head_fits.Tie as tie
 

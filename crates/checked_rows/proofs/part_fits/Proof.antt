@@ -1,7 +1,7 @@
 -- `checked_rows::part_fits` meets its contract: it suits, and is low enough. Assumes nothing.
 use Prim.Native.Nat.{_≤_}
 use borrow.Author.Tests.{not-true, not-false}
-use Rattle.zeros.specs.Zeros.{refuted, denied}
+use Rattle.lists.specs.Tells.{refuted, denied}
 use Rattle.checked_rows.specs.CheckedRows.{suits-small, fits-low}
 use borrow.Author.Needs.{needs}
 use Rattle.checked_rows.proofs.part_fits.Statement.{statement}

@@ -3,7 +3,8 @@ use mathlib.Core.Path.{_≡_}
 use Prim.Native.Nat.{_+_, _≤_, _<_, _-_}
 use borrow.Author.Tests.{not-true, not-false}
 use lib.ListN.{getD}
-use Rattle.zeros.specs.Zeros.{granted, refuted, denied, each-more}
+use Rattle.lists.specs.Tells.{granted, refuted, denied}
+use Rattle.zeros.specs.Zeros.{each-more}
 use Rattle.checked_rows.specs.CheckedRows.{PartFits, PartsFit}
 use native.Mathlib.Omega.{arith}
 use borrow.Author.Needs.{needs}

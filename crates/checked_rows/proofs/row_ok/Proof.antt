@@ -1,7 +1,7 @@
 -- `checked_rows::row_ok` meets its contract: too many parts, zeros, the parts, the head. Assumes nothing.
 use Prim.Native.Nat.{_*_, _-_, _≤_}
 use borrow.Author.Tests.{not-true, not-false}
-use Rattle.zeros.specs.Zeros.{granted, refuted, denied}
+use Rattle.lists.specs.Tells.{granted, refuted, denied}
 use Rattle.checked_rows.specs.CheckedRows.{one, one-small, row-told, head-told}
 use native.Mathlib.Omega.{arith}
 use borrow.Author.Needs.{needs}

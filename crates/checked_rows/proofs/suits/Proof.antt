@@ -1,6 +1,6 @@
 -- `checked_rows::suits` meets its contract: none, or a mark. Assumes nothing.
 use mathlib.Core.Logic.{inl}
-use Rattle.zeros.specs.Zeros.{granted, refuted}
+use Rattle.lists.specs.Tells.{granted, refuted}
 use Rattle.checked_rows.specs.CheckedRows.{suits-past, suits-marked}
 use borrow.Author.Needs.{needs}
 use Rattle.checked_rows.proofs.suits.Statement.{statement}

@@ -1,8 +1,7 @@
 -- `checked_stacks::entry_fits` meets its contract: by its number and, of an action, its kind. Assumes nothing.
 use mathlib.Core.Logic.{inl, inr, ⊎-elim}
 use lib.ListN.{getD}
-use Rattle.lists.specs.Tells.{form, equal}
-use Rattle.zeros.specs.Zeros.{granted, refuted}
+use Rattle.lists.specs.Tells.{form, equal, granted, refuted}
 use native.Mathlib.Omega.{arith}
 use borrow.Author.Needs.{needs}
 use Rattle.checked_stacks.proofs.entry_fits.Statement.{statement}

@@ -1,7 +1,6 @@
 -- `checked_stacks::frames_ok` meets its contract: too deep, the states, the maps. Assumes nothing.
 use borrow.Author.Tests.{not-true, not-false}
-use Rattle.lists.specs.Tells.{form}
-use Rattle.zeros.specs.Zeros.{refuted, denied}
+use Rattle.lists.specs.Tells.{form, refuted, denied}
 use Rattle.checked_stacks.specs.CheckedStacks.{stack-told}
 use native.Mathlib.Omega.{arith}
 use borrow.Author.Needs.{needs}

@@ -1,7 +1,6 @@
 -- `checked_stacks::state_fits` meets its contract: by its number and its kind. Assumes nothing.
 use lib.ListN.{getD}
-use Rattle.lists.specs.Tells.{form, equal}
-use Rattle.zeros.specs.Zeros.{refuted}
+use Rattle.lists.specs.Tells.{form, equal, refuted}
 use native.Mathlib.Omega.{arith}
 use borrow.Author.Needs.{needs}
 use Rattle.checked_stacks.proofs.state_fits.Statement.{statement}

@@ -8,7 +8,8 @@ use Rattle.values.specs.declared.Ty.the-variants.{Void as void}
 use Rattle.programs.specs.Program.{eventType}
 use Rattle.codes.specs.Pairs.{pairEvent}
 use Rattle.tables.specs.Tables.{events-length}
-use Rattle.checked_values.specs.Tests.{no, pair-told, pair-absent}
+use Rattle.lists.specs.Tells.{refuted}
+use Rattle.checked_values.specs.Tests.{pair-told, pair-absent}
 use borrow.Author.Needs.{needs}
 use Rattle.checked_values.proofs.pair_ok.Statement.{statement}
 use Rattle.checked_values.proofs.pair_ok.Tie as tie
@@ -42,7 +43,7 @@ returns-2 c =
     let n = c .before .before .event-count in
     λ p q.
     let l : length (p .events) ≡ n .result = ap length q ∙ events-length (a .types .now) ∙ sym (n .ensures) in
-    no (pair-absent p (a .next) (a .x) (n .result) l (sym (c .before .there .ensures) ∙ c .if1 .left))
+    refuted (pair-absent p (a .next) (a .x) (n .result) l (sym (c .before .there .ensures) ∙ c .if1 .left))
 
 pub pair-ok-spec : {M : Type 1} → statement M
 pair-ok-spec =

@@ -1,12 +1,13 @@
 -- `checked_values::pending_ok` meets its contract: 0 and 1 are nothing and a return, any other number a raise's. Assumes nothing.
-use Rattle.checked_values.specs.Tests.{yes, small-held, raise-told}
+use Rattle.lists.specs.Tells.{granted}
+use Rattle.checked_values.specs.Tests.{small-held, raise-told}
 use native.Mathlib.Omega.{arith}
 use borrow.Author.Needs.{needs}
 use Rattle.checked_values.proofs.pending_ok.Statement.{statement}
 use Rattle.checked_values.proofs.pending_ok.Tie as tie
 
 returns : tie.Need-returns
-returns c = λ p q. yes (small-held p (c .before .args .next) (c .before .args .x) (omega (arith, c .if1 .taken)))
+returns c = λ p q. granted (small-held p (c .before .args .next) (c .before .args .x) (omega (arith, c .if1 .taken)))
 
 pair-ok-requires : tie.Need-pair-ok-requires
 pair-ok-requires c κs = search needs

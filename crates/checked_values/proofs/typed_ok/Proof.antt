@@ -1,7 +1,8 @@
 -- `checked_values::typed_ok` meets its contract: a value's number is asked whether the value suits. Assumes nothing.
 use mathlib.Core.Path.{sym, _∙_}
 use mathlib.Core.Bool.{true≢false}
-use Rattle.checked_values.specs.Tests.{no, typed-told, untyped}
+use Rattle.lists.specs.Tells.{refuted}
+use Rattle.checked_values.specs.Tests.{typed-told, untyped}
 use borrow.Author.Needs.{needs}
 use Rattle.checked_values.proofs.typed_ok.Statement.{statement}
 use Rattle.checked_values.proofs.typed_ok.Tie as tie
@@ -23,7 +24,7 @@ returns c =
 returns-2 : tie.Need-returns-2
 returns-2 c =
     let a = c .before .before .args in
-    λ p q. no (λ k. true≢false (sym (c .before .value-ok .ensures p q .test (untyped p (a .next) (a .x) (a .t) k)) ∙ c .if1 .left))
+    λ p q. refuted (λ k. true≢false (sym (c .before .value-ok .ensures p q .test (untyped p (a .next) (a .x) (a .t) k)) ∙ c .if1 .left))
 
 pub typed-ok-spec : {M : Type 1} → statement M
 typed-ok-spec =

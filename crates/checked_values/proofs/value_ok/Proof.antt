@@ -1,9 +1,10 @@
--- `checked_values::value_ok` meets its contract: a canonical number is asked its value, and no other is a value's. Assumes nothing.
+-- `checked_values::value_ok` meets its contract: a canonical number is asked its value, and refuted other is a value's. Assumes nothing.
 use mathlib.Core.Path.{sym, _∙_}
 use mathlib.Core.Bool.{true≢false}
 use Rattle.codes.specs.Codes.{Canonical}
 use Rattle.codes.specs.Laws.{canonical-tells}
-use Rattle.checked_values.specs.Tests.{no, value-told}
+use Rattle.lists.specs.Tells.{refuted}
+use Rattle.checked_values.specs.Tests.{value-told}
 use borrow.Author.Needs.{needs}
 use Rattle.checked_values.proofs.value_ok.Statement.{statement}
 use Rattle.checked_values.proofs.value_ok.Tie as tie
@@ -26,7 +27,7 @@ returns c =
 returns-2 : tie.Need-returns-2
 returns-2 c =
     let a = c .before .before .args in
-    λ p q. no (λ k. true≢false (sym (canonical-tells (a .x) .test (k .written)) ∙ sym (c .before .canonical .ensures) ∙ c .if1 .left))
+    λ p q. refuted (λ k. true≢false (sym (canonical-tells (a .x) .test (k .written)) ∙ sym (c .before .canonical .ensures) ∙ c .if1 .left))
 
 pub value-ok-spec : {M : Type 1} → statement M
 value-ok-spec =

@@ -1,6 +1,7 @@
 -- `checked_values::value_there` meets its contract: each kind of value by its own test. Assumes nothing.
 use Rattle.codes.proofs.Held.{holdable}
-use Rattle.checked_values.specs.Tests.{yes, event-told, id-told}
+use Rattle.lists.specs.Tells.{granted}
+use Rattle.checked_values.specs.Tests.{event-told, id-told}
 use borrow.Author.Needs.{needs}
 use Rattle.checked_values.proofs.value_there.Statement.{statement}
 use Rattle.checked_values.proofs.value_there.Tie as tie
@@ -30,16 +31,16 @@ handed-out-requires : tie.Need-handed-out-requires
 handed-out-requires c κs = search needs
 
 returns : tie.Need-returns
-returns c = λ p q. rw (c .enum-told .given .1) (yes tt)
+returns c = λ p q. rw (c .enum-told .given .1) (granted tt)
 
 returns-2 : tie.Need-returns-2
-returns-2 c = λ p q. rw (c .enum-told2 .given .1) (yes tt)
+returns-2 c = λ p q. rw (c .enum-told2 .given .1) (granted tt)
 
 returns-3 : tie.Need-returns-3
 returns-3 c =
     let s = c .before .before in
     let h = holdable (s .args .v) (s .good .0) in
-    λ p q. rw (c .enum-told3 .given .1) (yes (rw (c .enum-told3 .given .1) at h))
+    λ p q. rw (c .enum-told3 .given .1) (granted (rw (c .enum-told3 .given .1) at h))
 
 returns-4 : tie.Need-returns-4
 returns-4 c = λ p q. rw (c .before .before .v .given .1, c .there .ensures) (event-told p (c .before .before .before .before .args .next) _ _ q)

@@ -2,7 +2,7 @@
 use Prim.Native.Nat.{_-_, _≤_}
 use borrow.Author.Count.{below-more}
 use Rattle.checked_values.specs.Numbers.{Zeros}
-use Rattle.checked_values.specs.Tests.{yes, no}
+use Rattle.lists.specs.Tells.{granted, refuted}
 use native.Mathlib.Omega.{arith}
 use borrow.Author.Needs.{needs}
 use Rattle.checked_values.proofs.zero_u64.Statement.{statement}
@@ -29,7 +29,7 @@ shared-slice-read-if1 c = search needs
 returns : tie.Need-returns Inv-loop μ-loop
 returns c =
     let s = c .before .before .before in
-    no (λ z. c .if1 .taken (z (s .loop .j) (omega arith)))
+    refuted (λ z. c .if1 .taken (z (s .loop .j) (omega arith)))
 
 add-j : tie.Need-add-j Inv-loop μ-loop
 add-j c = search needs
@@ -45,7 +45,7 @@ loop-again c =
 returns-2 : tie.Need-returns-2 Inv-loop μ-loop
 returns-2 c =
     let l = c .before .loop in
-    yes (λ j h. l .inv .1 j (omega arith))
+    granted (λ j h. l .inv .1 j (omega arith))
 
 pub zero-u64-spec : {M : Type 1} → statement M
 zero-u64-spec =

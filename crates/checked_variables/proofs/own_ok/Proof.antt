@@ -2,7 +2,7 @@
 use mathlib.Core.Path.{sym, _∙_}
 use mathlib.Core.Bool.{true≢false}
 use borrow.Author.Tests.{not-true, not-false}
-use Rattle.checked_values.specs.Tests.{no}
+use Rattle.lists.specs.Tells.{refuted}
 use Rattle.checked_variables.specs.Room.{own-told, own-is, msg-is}
 use borrow.Author.Needs.{needs}
 use Rattle.checked_variables.proofs.own_ok.Statement.{statement}
@@ -23,7 +23,7 @@ code-requires c κs = search needs
 returns : tie.Need-returns
 returns c =
     let a = c .before .before .before .args in
-    λ p q. no (λ h. c .if1 .taken (own-is p (a .next) (a .this) (a .b) (a .values .now) h ∙ sym (c .before .code .ensures)))
+    λ p q. refuted (λ h. c .if1 .taken (own-is p (a .next) (a .this) (a .b) (a .values .now) h ∙ sym (c .before .code .ensures)))
 
 add-typed-ok : tie.Need-add-typed-ok
 add-typed-ok c = search needs
@@ -43,7 +43,7 @@ typed-ok-requires c κs = search needs
 returns-2 : tie.Need-returns-2
 returns-2 c =
     let a = c .before .before .before .before .before .before .args in
-    λ p q. no (λ h. true≢false (sym (c .before .typed-ok .ensures p q .test (msg-is p (a .next) (a .this) (a .b) (a .values .now) h)) ∙ not-true _ (c .if2 .taken)))
+    λ p q. refuted (λ h. true≢false (sym (c .before .typed-ok .ensures p q .test (msg-is p (a .next) (a .this) (a .b) (a .values .now) h)) ∙ not-true _ (c .if2 .taken)))
 
 add-value-ok : tie.Need-add-value-ok
 add-value-ok c = search needs

@@ -7,7 +7,7 @@ use lib.ListN.{length}
 use Rattle.programs.specs.Program.{Program}
 use Rattle.tables.specs.Decode.{eventsOf, variablesOf}
 use Rattle.tables.specs.Tables.{events-length}
-use Rattle.checked_values.specs.Tests.{no}
+use Rattle.lists.specs.Tells.{refuted}
 use Rattle.checked_variables.specs.Room.{told-few, told-fits, told-zeros, told-own}
 use native.Mathlib.Omega.{arith}
 use borrow.Author.Needs.{needs}
@@ -26,7 +26,7 @@ returns c =
     let s = c .before .before in
     let a = s .args in
     let m = c .before .kind-count in
-    λ p q o. no (λ v. absurd (omega (arith, c .if1 .taken, told-few p (a .next) (a .kind) (a .this) (m .result) (variablesOf (a .kinds .now) (a .types .now)) (a .values .now) (a .i) q (m .ensures (a .types .now)) (s .pre .0) (s .pre .1) v)))
+    λ p q o. refuted (λ v. absurd (omega (arith, c .if1 .taken, told-few p (a .next) (a .kind) (a .this) (m .result) (variablesOf (a .kinds .now) (a .types .now)) (a .values .now) (a .i) q (m .ensures (a .types .now)) (s .pre .0) (s .pre .1) v)))
 
 event-count-requires : tie.Need-event-count-requires
 event-count-requires c κs = search needs
@@ -47,7 +47,7 @@ returns-2 c =
     let s = c .before .before .before .before .before in
     let a = s .args in
     let m = c .before .before .before .before .kind-count in
-    λ p q o. no (λ v. true≢false (sym (c .before .variables-ok .ensures p (events-told (c .before .before) p o) .test (told-fits p (a .next) (a .kind) (a .this) (m .result) (variablesOf (a .kinds .now) (a .types .now)) (a .values .now) (a .i) q (m .ensures (a .types .now)) (s .pre .0) (s .pre .1) v)) ∙ not-true _ (c .if2 .taken)))
+    λ p q o. refuted (λ v. true≢false (sym (c .before .variables-ok .ensures p (events-told (c .before .before) p o) .test (told-fits p (a .next) (a .kind) (a .this) (m .result) (variablesOf (a .kinds .now) (a .types .now)) (a .values .now) (a .i) q (m .ensures (a .types .now)) (s .pre .0) (s .pre .1) v)) ∙ not-true _ (c .if2 .taken)))
 
 add-zero-u64 : tie.Need-add-zero-u64
 add-zero-u64 c = search needs
@@ -60,7 +60,7 @@ returns-3 c =
     let s = c .before .before .before .before .before .before .before .before in
     let a = s .args in
     let m = c .before .before .before .before .before .before .before .kind-count in
-    λ p q o. no (λ v. true≢false (sym (c .before .zero-u64 .ensures .test (told-zeros p (a .next) (a .kind) (a .this) (m .result) (variablesOf (a .kinds .now) (a .types .now)) (a .values .now) (a .i) q (m .ensures (a .types .now)) (s .pre .0) (s .pre .1) v)) ∙ not-true _ (c .if3 .taken)))
+    λ p q o. refuted (λ v. true≢false (sym (c .before .zero-u64 .ensures .test (told-zeros p (a .next) (a .kind) (a .this) (m .result) (variablesOf (a .kinds .now) (a .types .now)) (a .values .now) (a .i) q (m .ensures (a .types .now)) (s .pre .0) (s .pre .1) v)) ∙ not-true _ (c .if3 .taken)))
 
 own-ok-requires : tie.Need-own-ok-requires
 own-ok-requires c κs = search needs

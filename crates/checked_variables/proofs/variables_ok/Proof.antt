@@ -8,13 +8,12 @@ use borrow.Author.Tests.{eq-eqb, ne-eqb, not-true, not-false}
 use lib.Dec.{eqb}
 use lib.ListN.{length, getD}
 use Rattle.lists.specs.Lists.{at}
-use Rattle.lists.specs.Tells.{Tells}
+use Rattle.lists.specs.Tells.{Tells, granted, refuted}
 use Rattle.rows.specs.Part.{part, part-length}
 use Rattle.programs.specs.Program.{Program, Variable}
 use Rattle.tables.specs.Decode.{noVariable, variablesOf}
 use Rattle.tables.specs.Tables.{variables-length}
 use Rattle.checked_values.specs.Numbers.{TypedNumber}
-use Rattle.checked_values.specs.Tests.{yes, no}
 use Rattle.checked_variables.specs.Going.{Counted, Going, counted-own, counted-other, counted-below, number-told}
 use Rattle.checked_variables.specs.Going.{going-none, going-own, going-other, going-not, going-all}
 use native.Mathlib.Omega.{arith}
@@ -95,7 +94,7 @@ returns c =
     let t = c .before .before .before .before in
     let l = t .before .before .before .before .loop in
     let s = t .before .before .before .before .before .before in
-    λ p q. no (λ f. true≢false (sym (answered (c .before) p q .test (going-not p (s .args .next) (s .args .kind) (vars s) (part (s .args .b) 19 (s .args .values .now)) (l .x) (l .j) (l .inv .3 p q) (there (t .before .before .before)) (own t) (omega (arith, below t, row-long s)) f)) ∙ not-true _ (c .if2 .taken)))
+    λ p q. refuted (λ f. true≢false (sym (answered (c .before) p q .test (going-not p (s .args .next) (s .args .kind) (vars s) (part (s .args .b) 19 (s .args .values .now)) (l .x) (l .j) (l .inv .3 p q) (there (t .before .before .before)) (own t) (omega (arith, below t, row-long s)) f)) ∙ not-true _ (c .if2 .taken)))
 
 add-j : tie.Need-add-j Inv-loop μ-loop
 add-j c = search needs
@@ -133,7 +132,7 @@ returns-2 : tie.Need-returns-2 Inv-loop μ-loop
 returns-2 c =
     let l = c .before .loop in
     let s = c .before .before .before in
-    λ p q. yes (going-all p (s .args .next) (s .args .kind) (vars s) (part (s .args .b) 19 (s .args .values .now)) (l .x) (l .j) (l .inv .3 p q) (omega (arith, variables-length (s .args .kinds .now) (s .args .types .now))))
+    λ p q. granted (going-all p (s .args .next) (s .args .kind) (vars s) (part (s .args .b) 19 (s .args .values .now)) (l .x) (l .j) (l .inv .3 p q) (omega (arith, variables-length (s .args .kinds .now) (s .args .types .now))))
 
 pub variables-ok-spec : {M : Type 1} → statement M
 variables-ok-spec =

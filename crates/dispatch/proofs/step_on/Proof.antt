@@ -1,7 +1,7 @@
 -- `dispatch::step_on` meets its contract, a case for each way out.
 use native.Mathlib.Omega.{arith}
 use borrow.Author.Needs.{needs}
-use Rattle.dispatch.specs.Dispatch.{step-zero, step-none, room-low, step-empty, head-asked, step-head, pend-asked, step-pends, dequeue-asked, step-dequeues}
+use Rattle.dispatch.specs.Dispatch.{step-zero, step-none, step-empty, head-asked, step-head, pend-asked, step-pends, dequeue-asked, step-dequeues}
 use Rattle.dispatch.proofs.step_on.Statement.{statement}
 use Rattle.dispatch.proofs.step_on.Tie as tie
 

@@ -1,7 +1,8 @@
 -- `distinct::distinct_ok` meets its contract: after i turns each of the first i rooms is free or has a number that no later one holds. Assumes nothing.
 use Prim.Native.Nat.{ℕ, _≤_, _<_, _-_}
 use borrow.Author.Tests.{not-true, not-false}
-use Rattle.zeros.specs.Zeros.{granted, refuted, denied, each-more}
+use Rattle.lists.specs.Tells.{granted, refuted, denied}
+use Rattle.zeros.specs.Zeros.{each-more}
 use Rattle.distinct.specs.Distinct.{Single, distinct-told}
 use native.Mathlib.Omega.{arith}
 use borrow.Author.Needs.{needs}

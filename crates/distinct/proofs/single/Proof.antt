@@ -2,7 +2,8 @@
 use mathlib.Core.Path.{_≡_}
 use Prim.Native.Nat.{ℕ, _≤_, _<_, _-_}
 use lib.ListN.{getD}
-use Rattle.zeros.specs.Zeros.{granted, refuted, each-more}
+use Rattle.lists.specs.Tells.{granted, refuted}
+use Rattle.zeros.specs.Zeros.{each-more}
 use native.Mathlib.Omega.{arith}
 use borrow.Author.Needs.{needs}
 use Rattle.distinct.proofs.single.Statement.{statement}

@@ -2,7 +2,7 @@
 use mathlib.Core.Path.{_≡_}
 use Prim.Native.Nat.{ℕ, _-_, _≤_}
 use lib.ListN.{replicate, length-replicate}
-use Rattle.marks.specs.Kinds.{zeros-get}
+use Rattle.rows.specs.Pad.{zeros-get}
 use Rattle.expr_marks.specs.Naming.{rowsOf, rows-none, rows-more, named-all}
 use native.Mathlib.Omega.{arith}
 use borrow.Author.Needs.{needs}
@@ -60,7 +60,7 @@ returns c =
     let n = c .before .before in
     let x = n .before in
     let a = x .before .args in
-    λ p e f h. named-all (a .exprs .now) (a .stmts .now) (a .inits .now) (a .served .now) p e f h (replicate {A = ℕ} 17425 0) (length-replicate {A = ℕ} 17425 0) (zeros-get 17425) (x .expr-count .result) (n .stmt-count .result) (l .k) (l .marks) (x .expr-count .ensures) (n .stmt-count .ensures) (omega (arith, c .loop-test .left, l .inv .0)) (l .inv .3)
+    λ p e f h. named-all (a .exprs .now) (a .stmts .now) (a .inits .now) (a .served .now) p e f h (replicate {A = ℕ} 17425 0) (length-replicate {A = ℕ} 17425 0) (zeros-get 0 17425) (x .expr-count .result) (n .stmt-count .result) (l .k) (l .marks) (x .expr-count .ensures) (n .stmt-count .ensures) (omega (arith, c .loop-test .left, l .inv .0)) (l .inv .3)
 
 pub expr-served-spec : {M : Type 1} → statement M
 expr-served-spec =

@@ -1,7 +1,6 @@
 -- `free_rooms::free_ok` meets its contract: its numbers, then its rows. Assumes nothing.
 use borrow.Author.Tests.{not-true, not-false}
-use Rattle.lists.specs.Tells.{form}
-use Rattle.zeros.specs.Zeros.{refuted, denied}
+use Rattle.lists.specs.Tells.{form, refuted, denied}
 use Rattle.free_rooms.specs.FreeRooms.{free-told}
 use borrow.Author.Needs.{needs}
 use Rattle.free_rooms.proofs.free_ok.Statement.{statement}

@@ -1,6 +1,5 @@
 -- `free_rooms::numbers_zero` meets its contract: one after the other. Assumes nothing.
-use Rattle.lists.specs.Tells.{form, equal}
-use Rattle.zeros.specs.Zeros.{refuted}
+use Rattle.lists.specs.Tells.{form, equal, refuted}
 use borrow.Author.Needs.{needs}
 use Rattle.free_rooms.proofs.numbers_zero.Statement.{statement}
 use Rattle.free_rooms.proofs.numbers_zero.Tie as tie

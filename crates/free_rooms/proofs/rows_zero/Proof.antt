@@ -1,7 +1,6 @@
 -- `free_rooms::rows_zero` meets its contract: one after the other. Assumes nothing.
 use borrow.Author.Tests.{not-true, not-false}
-use Rattle.lists.specs.Tells.{form}
-use Rattle.zeros.specs.Zeros.{refuted, denied}
+use Rattle.lists.specs.Tells.{form, refuted, denied}
 use borrow.Author.Needs.{needs}
 use Rattle.free_rooms.proofs.rows_zero.Statement.{statement}
 use Rattle.free_rooms.proofs.rows_zero.Tie as tie

@@ -4,7 +4,7 @@ use Prim.Native.Nat.{ℕ, _-_, _≤_, _<_}
 use native.Mathlib.Omega.{arith}
 use borrow.Author.Needs.{needs}
 use lib.ListN.{getD, length-replicate}
-use Rattle.index.specs.Zeros.{zeros-get}
+use Rattle.rows.specs.Pad.{zeros-get}
 use Rattle.index.specs.Placing.{Counting, before-le, counting-none, counting-more, counting-all}
 use Rattle.index.proofs.place_all.Statement.{statement}
 use Rattle.index.proofs.place_all.Tie as tie
@@ -20,7 +20,7 @@ variable-count-requires c κs = search needs
 
 loop-holds : tie.Need-loop-holds Inv-loop μ-loop
 loop-holds c =
-    (omega arith, omega (arith, c .variable-count .ensures), counting-none (c .before .args .kinds .now) _ _ (length-replicate {A = ℕ} 256 0) (length-replicate {A = ℕ} 257 0) (zeros-get 256) (zeros-get 257))
+    (omega arith, omega (arith, c .variable-count .ensures), counting-none (c .before .args .kinds .now) _ _ (length-replicate {A = ℕ} 256 0) (length-replicate {A = ℕ} 257 0) (zeros-get 0 256) (zeros-get 0 257))
 
 add-of : tie.Need-add-of Inv-loop μ-loop
 add-of c = search needs

@@ -4,7 +4,7 @@ use Prim.Native.Nat.{ℕ, _+_}
 use borrow.Author.Needs.{needs}
 use lib.ListN.{replicate, length-replicate}
 use Rattle.tables.specs.Decode.{movesOf}
-use Rattle.index.specs.Zeros.{zeros-get}
+use Rattle.rows.specs.Pad.{zeros-get}
 use Rattle.index.specs.Saying.{said-stored, moves-cut}
 use Rattle.index.proofs.say.Statement.{statement}
 use Rattle.index.proofs.say.Tie as tie
@@ -29,7 +29,7 @@ returns c =
     let a = one .before .before .before .args in
     let cut : movesOf (a .moves .now) (r .result) (a .acts) ≡ movesOf (a .moves .now) (a .steps + a .calls) (a .acts) =
     ap (λ (k : ℕ). movesOf (a .moves .now) k (a .acts)) (r .ensures) ∙ moves-cut (a .moves .now) (a .steps + a .calls) (a .acts) in
-    said-stored _ _ _ (replicate {A = ℕ} 12675 0) (length-replicate {A = ℕ} 12675 0) (zeros-get 12675) _ _ _ (one .store-moves .ensures) (two .store-moves2 .ensures)
+    said-stored _ _ _ (replicate {A = ℕ} 12675 0) (length-replicate {A = ℕ} 12675 0) (zeros-get 0 12675) _ _ _ (one .store-moves .ensures) (two .store-moves2 .ensures)
     (rw cut at (c .store-moves3 .ensures))
 
 pub say-spec : {M : Type 1} → statement M

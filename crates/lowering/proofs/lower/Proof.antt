@@ -3,7 +3,7 @@ use mathlib.Core.Path.{_∙_}
 use mathlib.Core.List.{[]}
 use Prim.Native.Nat.{ℕ}
 use lib.ListN.{replicate, length-replicate}
-use Rattle.index.specs.Zeros.{zeros-get}
+use Rattle.rows.specs.Pad.{zeros-get}
 use Rattle.doubling.specs.Doubling.{Seen, seen-none}
 use Rattle.lowering.specs.Lowering.{lower-line}
 use borrow.Author.Needs.{needs}
@@ -12,7 +12,7 @@ use Rattle.lowering.proofs.lower.Tie as tie
 
 -- no marks are set at first
 clean : Seen (replicate {A = ℕ} 65536 0) []
-clean = seen-none (replicate {A = ℕ} 65536 0) (length-replicate {A = ℕ} 65536 0) (zeros-get 65536)
+clean = seen-none (replicate {A = ℕ} 65536 0) (length-replicate {A = ℕ} 65536 0) (zeros-get 0 65536)
 
 exprs-lower-requires : tie.Need-exprs-lower-requires
 exprs-lower-requires c κs = search needs

@@ -6,7 +6,7 @@ use Rattle.lists.specs.Lists.{at}
 use Rattle.programs.specs.declared.Leaf.the-variants.{Bot as bot}
 use Rattle.programs.specs.declared.Expr.the-variants.{Leaf as leaf}
 use Rattle.tables.specs.Decode.{exprsOf}
-use Rattle.marks.specs.Kinds.{zeros-get}
+use Rattle.rows.specs.Pad.{zeros-get}
 use Rattle.marks.specs.Tall.{lowAt}
 use Rattle.lowness.specs.Trees.{Counted, starsOver, counted-first, counted-more, counted-exprs}
 use native.Mathlib.Omega.{arith}
@@ -26,7 +26,7 @@ expr-count-requires c κs = search needs
 loop-holds : tie.Need-loop-holds Inv-loop μ-loop
 loop-holds c =
     let exprs = c .before .args .exprs .now in
-    (omega arith, omega arith, omega (arith, c .expr-count .ensures), counted-first (at (leaf bot) (exprsOf exprs)) _ (length-replicate {A = ℕ} 1025 0) (zeros-get 1025) refl)
+    (omega arith, omega arith, omega (arith, c .expr-count .ensures), counted-first (at (leaf bot) (exprsOf exprs)) _ (length-replicate {A = ℕ} 1025 0) (zeros-get 0 1025) refl)
 
 expr-at-requires : tie.Need-expr-at-requires Inv-loop μ-loop
 expr-at-requires c κs = search needs

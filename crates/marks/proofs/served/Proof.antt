@@ -3,7 +3,8 @@ use mathlib.Core.Path.{_≡_}
 use Prim.Native.Nat.{ℕ, _-_, _≤_}
 use lib.ListN.{replicate, length-replicate}
 use Rattle.marks.specs.Inner.{partsIn}
-use Rattle.marks.specs.Kinds.{flowedRows, rows-none, rows-more, served-stored, zeros-get}
+use Rattle.rows.specs.Pad.{zeros-get}
+use Rattle.marks.specs.Kinds.{flowedRows, rows-none, rows-more, served-stored}
 use native.Mathlib.Omega.{arith}
 use borrow.Author.Needs.{needs}
 use Rattle.marks.proofs.served.Statement.{statement}
@@ -53,7 +54,7 @@ returns c =
     let b = e .before .before in
     let n = b .before .before in
     let a = n .before .args in
-    served-stored (a .stmts .now) (a .action-of .now) (a .action-body .now) (a .state-of .now) (a .state-entry .now) (a .state-exit .now) (replicate {A = ℕ} 17425 0) (length-replicate {A = ℕ} 17425 0) (zeros-get 17425) (n .stmt-count .result) (l .k) (n .stmt-count .ensures) (omega (arith, c .loop-test .left, l .inv .0)) _ _ (l .marks) (b .mark-bodies .ensures) (e .mark-ends .ensures) (l .inv .2)
+    served-stored (a .stmts .now) (a .action-of .now) (a .action-body .now) (a .state-of .now) (a .state-entry .now) (a .state-exit .now) (replicate {A = ℕ} 17425 0) (length-replicate {A = ℕ} 17425 0) (zeros-get 0 17425) (n .stmt-count .result) (l .k) (n .stmt-count .ensures) (omega (arith, c .loop-test .left, l .inv .0)) _ _ (l .marks) (b .mark-bodies .ensures) (e .mark-ends .ensures) (l .inv .2)
 
 pub served-spec : {M : Type 1} → statement M
 served-spec =

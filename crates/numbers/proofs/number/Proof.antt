@@ -1,10 +1,7 @@
 -- `numbers::number` meets its contract: each arm is the number of its answer.
-use native.Mathlib.Omega.{arith}
 use borrow.Author.Needs.{needs}
 use Rattle.numbers.proofs.number.Statement.{statement}
 use Rattle.numbers.proofs.number.Tie as tie
-use Rattle.numbers.proofs.number.Reads as reads
-use Rattle.numbers.proofs.number.Lts as lts
 
 -- src/lib.rt:10:25
 enum-told : tie.Need-enum-told

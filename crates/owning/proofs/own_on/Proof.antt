@@ -1,5 +1,4 @@
 -- `owning::own_on` meets its contract, a case for each head.
-use native.Mathlib.Omega.{arith}
 use borrow.Author.Needs.{needs}
 use Rattle.owning.specs.Owning.{own-row, own-part, own-deep, own-assign, own-assert, own-if, own-while, own-return, own-raise, row-left, pending-left, alone-left, owned-at}
 use Rattle.owning.proofs.own_on.Statement.{statement}

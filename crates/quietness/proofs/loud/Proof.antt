@@ -1,7 +1,7 @@
 -- `quietness::loud` meets its contract: before the turn of statement s the lower ones have their marks, and the others none.
 use Prim.Native.Nat.{ℕ, _+_, _-_, _≤_}
 use lib.ListN.{length-replicate}
-use Rattle.marks.specs.Kinds.{zeros-get}
+use Rattle.rows.specs.Pad.{zeros-get}
 use Rattle.quietness.specs.Quiet.{Hushing, quiet-first, quiet-more, quiet-all}
 use native.Mathlib.Omega.{arith}
 use borrow.Author.Needs.{needs}
@@ -20,7 +20,7 @@ stmt-count-requires c κs = search needs
 loop-holds : tie.Need-loop-holds Inv-loop μ-loop
 loop-holds c =
     let stmts = c .before .args .stmts .now in
-    (omega arith, omega arith, omega (arith, c .stmt-count .ensures), quiet-first stmts _ (length-replicate {A = ℕ} 1025 0) (zeros-get 1025))
+    (omega arith, omega arith, omega (arith, c .stmt-count .ensures), quiet-first stmts _ (length-replicate {A = ℕ} 1025 0) (zeros-get 0 1025))
 
 mark-of-requires : tie.Need-mark-of-requires Inv-loop μ-loop
 mark-of-requires c κs =

@@ -4,7 +4,7 @@ use mathlib.Core.List.{[]}
 use Prim.Native.Nat.{ℕ}
 use lib.ListN.{replicate, length-replicate}
 use Rattle.tables.specs.Decode.{movesOf}
-use Rattle.index.specs.Zeros.{zeros-get}
+use Rattle.rows.specs.Pad.{zeros-get}
 use Rattle.singling.specs.Marking.{marked-none}
 use Rattle.singling.specs.Singling.{single-moves}
 use borrow.Author.Needs.{needs}
@@ -43,7 +43,7 @@ returns c =
     let v = u .before .before in
     let r = v .before .before in
     let a = r .before .args in
-    let none = marked-none (replicate {A = ℕ} 4225 0) (length-replicate {A = ℕ} 4225 0) (zeros-get 4225) in
+    let none = marked-none (replicate {A = ℕ} 4225 0) (length-replicate {A = ℕ} 4225 0) (zeros-get 0 4225) in
     let one = v .first-double .ensures .1 [] none in
     let two = u .first-double2 .ensures .1 (movesOf (a .moves .now) 0 (a .steps)) (one .marked) in
     let three = t .first-double3 .ensures .1 [] none in (

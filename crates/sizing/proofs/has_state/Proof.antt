@@ -11,7 +11,8 @@ use Rattle.programs.specs.Program.{Program as Lines, State}
 use Rattle.tables.specs.Decode.{noState, statesOf}
 use Rattle.tables.specs.Tables.{states-length}
 use Rattle.faults.specs.Faults.{at-place}
-use Rattle.sizing.specs.Upward.{NoneOf, none-more, any-none, any-one}
+use Rattle.lists.specs.Facts.{any-getD}
+use Rattle.sizing.specs.Upward.{NoneOf, none-more, any-none}
 use borrow.Author.Needs.{needs}
 use native.Mathlib.Omega.{arith}
 use Rattle.sizing.proofs.has_state.Statement.{statement}
@@ -49,7 +50,7 @@ returns c p entries exits flags e =
     let l = c .before .before .before .before .loop in
     let s = c .before .before .before .before .before in
     let a = s .before .args in
-    sym (any-one (λ q. eqb (q .of) (a .k)) noState (p .states) (l .i) (omega (arith, ap length e, states-length (a .states .now) entries exits flags, s .state-count .ensures))
+    sym (any-getD (λ q. eqb (q .of) (a .k)) noState (p .states) (l .i) (omega (arith, ap length e, states-length (a .states .now) entries exits flags, s .state-count .ensures))
     (tested p (a .states .now) entries exits flags (l .i) (a .k) e (c .before .before .state-kind .ensures entries exits flags) (eq-eqb _ _ (c .if1 .taken))))
 
 add-i : tie.Need-add-i Inv-loop μ-loop

@@ -1,14 +1,15 @@
 -- `soundly::sound` meets its contract, a case for each pass that finds a faulty line.
-use mathlib.Core.Path.{refl}
+use mathlib.Core.Path.{refl, sym, _∙_}
 use native.Mathlib.Omega.{arith}
 use borrow.Author.Needs.{needs}
+use borrow.Author.Tests.{not-true, not-false}
 use Rattle.soundness.specs.Asked.{refers, lower, own, single, quiet, low}
 use Rattle.tables.specs.Decode.{programOf}
 use Rattle.faults.specs.Read.{counted, counting-small}
 use Rattle.fronts.specs.Asking.{told-program}
 use Rattle.marks.specs.Marks.{stated-program, peopled-program}
 use Rattle.quietness.specs.Quiet.{told-states-program}
-use Rattle.soundly.specs.Soundly.{passed, failed, tabled-program, moving-program, few-kinds, all-there, met, unmet, no-order, no-size, no-reference, no-lowness, no-owner, no-single, no-quiet, no-height, all-but}
+use Rattle.soundly.specs.Soundly.{tabled-program, moving-program, few-kinds, all-there, met, unmet, no-order, no-size, no-reference, no-lowness, no-owner, no-single, no-quiet, no-height, all-but}
 use Rattle.soundly.proofs.sound.Statement.{statement}
 use Rattle.soundly.proofs.sound.Tie as tie
 
@@ -20,7 +21,7 @@ returns c =
     let q = c .before .before .before .before .before .before .before .before .before .before .before .before .before .before .before .before .before .before .before .before .args .q in
     let p = programOf q in
     let orderly-is = c .before .orderly .ensures p (q .«state_of») (q .«state_entry») (q .«state_exit») (q .defers) refl refl refl in
-    no-order p (failed _ _ orderly-is (c .if1 .taken))
+    no-order p (sym orderly-is ∙ not-true _ (c .if1 .taken))
 
 slice-aggregate-sized : tie.Need-slice-aggregate-sized
 slice-aggregate-sized c = search needs
@@ -33,7 +34,7 @@ returns-2 c =
     let q = c .before .before .before .before .before .before .before .before .before .before .before .before .before .before .before .before .before .before .before .before .before .before .before .before .args .q in
     let p = programOf q in
     let sized-is = c .before .sized .ensures p (q .«event_types») (q .«variable_type») (q .stmts) (q .inits) (q .«action_of») (q .«action_body») (q .«state_of») (q .«state_entry») (q .«state_exit») (q .defers) (tabled-program q) in
-    no-size p (failed _ _ sized-is (c .if2 .taken))
+    no-size p (sym sized-is ∙ not-true _ (c .if2 .taken))
 
 refers-requires : tie.Need-refers-requires
 refers-requires c κs = search needs
@@ -53,7 +54,7 @@ lower-requires c κs =
     let q = c .before .before .before .before .before .before .before .before .before .before .before .before .before .before .before .before .before .before .before .before .before .before .before .before .before .before .before .before .before .before .before .before .before .before .before .before .before .before .before .before .before .before .before .before .before .before .before .before .before .before .before .before .before .before .args .q in
     let p = programOf q in
     let sized-is = c .before .before .before .before .before .before .before .before .before .before .before .before .before .before .before .before .before .before .before .before .before .before .before .before .before .before .before .before .before .before .before .sized .ensures p (q .«event_types») (q .«variable_type») (q .stmts) (q .inits) (q .«action_of») (q .«action_body») (q .«state_of») (q .«state_entry») (q .«state_exit») (q .defers) (tabled-program q) in
-    let fits = passed _ _ sized-is (c .before .before .before .before .before .before .before .before .before .before .before .before .before .before .before .before .before .before .before .before .before .before .before .before .before .before .before .before .before .before .if2 .left) in
+    let fits = sym sized-is ∙ not-false _ (c .before .before .before .before .before .before .before .before .before .before .before .before .before .before .before .before .before .before .before .before .before .before .before .before .before .before .before .before .before .before .if2 .left) in
     let counting = c .before .before .before .before .before .before .before .before .count-rows .ensures in
     counting-small (omega (arith, few-kinds p fits)) counting
 
@@ -73,7 +74,7 @@ own-requires c κs =
     let q = c .before .before .before .before .before .before .before .before .before .before .before .before .before .before .before .before .before .before .before .before .before .before .before .before .before .before .before .before .before .before .before .before .before .before .before .before .before .before .before .before .before .before .before .before .before .before .before .before .before .before .before .before .before .before .before .before .before .before .before .before .before .before .before .before .before .before .before .before .before .args .q in
     let p = programOf q in
     let sized-is = c .before .before .before .before .before .before .before .before .before .before .before .before .before .before .before .before .before .before .before .before .before .before .before .before .before .before .before .before .before .before .before .before .before .before .before .before .before .before .before .before .before .before .before .before .before .before .sized .ensures p (q .«event_types») (q .«variable_type») (q .stmts) (q .inits) (q .«action_of») (q .«action_body») (q .«state_of») (q .«state_entry») (q .«state_exit») (q .defers) (tabled-program q) in
-    let fits = passed _ _ sized-is (c .before .before .before .before .before .before .before .before .before .before .before .before .before .before .before .before .before .before .before .before .before .before .before .before .before .before .before .before .before .before .before .before .before .before .before .before .before .before .before .before .before .before .before .before .before .if2 .left) in
+    let fits = sym sized-is ∙ not-false _ (c .before .before .before .before .before .before .before .before .before .before .before .before .before .before .before .before .before .before .before .before .before .before .before .before .before .before .before .before .before .before .before .before .before .before .before .before .before .before .before .before .before .before .before .before .before .if2 .left) in
     few-kinds p fits
 
 returns-5 : tie.Need-returns-5
@@ -126,9 +127,9 @@ returns-9 c =
     let q = c .before .before .before .before .before .before .before .before .before .before .before .before .before .before .before .before .before .before .before .before .before .before .before .before .before .before .before .before .before .before .before .before .before .before .before .before .before .before .before .before .before .before .before .before .before .before .before .before .before .before .before .before .before .before .before .before .before .before .before .before .before .before .before .before .before .before .before .before .before .before .before .before .before .before .before .before .before .before .before .before .before .before .before .before .before .before .before .before .before .before .before .before .before .before .before .before .before .before .before .before .before .args .q in
     let p = programOf q in
     let orderly-is = c .before .before .before .before .before .before .before .before .before .before .before .before .before .before .before .before .before .before .before .before .before .before .before .before .before .before .before .before .before .before .before .before .before .before .before .before .before .before .before .before .before .before .before .before .before .before .before .before .before .before .before .before .before .before .before .before .before .before .before .before .before .before .before .before .before .before .before .before .before .before .before .before .before .before .before .before .before .before .before .before .before .before .orderly .ensures p (q .«state_of») (q .«state_entry») (q .«state_exit») (q .defers) refl refl refl in
-    let ordered = passed _ _ orderly-is (c .before .before .before .before .before .before .before .before .before .before .before .before .before .before .before .before .before .before .before .before .before .before .before .before .before .before .before .before .before .before .before .before .before .before .before .before .before .before .before .before .before .before .before .before .before .before .before .before .before .before .before .before .before .before .before .before .before .before .before .before .before .before .before .before .before .before .before .before .before .before .before .before .before .before .before .before .before .before .before .before .before .if1 .left) in
+    let ordered = sym orderly-is ∙ not-false _ (c .before .before .before .before .before .before .before .before .before .before .before .before .before .before .before .before .before .before .before .before .before .before .before .before .before .before .before .before .before .before .before .before .before .before .before .before .before .before .before .before .before .before .before .before .before .before .before .before .before .before .before .before .before .before .before .before .before .before .before .before .before .before .before .before .before .before .before .before .before .before .before .before .before .before .before .before .before .before .before .before .before .if1 .left) in
     let sized-is = c .before .before .before .before .before .before .before .before .before .before .before .before .before .before .before .before .before .before .before .before .before .before .before .before .before .before .before .before .before .before .before .before .before .before .before .before .before .before .before .before .before .before .before .before .before .before .before .before .before .before .before .before .before .before .before .before .before .before .before .before .before .before .before .before .before .before .before .before .before .before .before .before .before .before .before .before .before .before .sized .ensures p (q .«event_types») (q .«variable_type») (q .stmts) (q .inits) (q .«action_of») (q .«action_body») (q .«state_of») (q .«state_entry») (q .«state_exit») (q .defers) (tabled-program q) in
-    let fits = passed _ _ sized-is (c .before .before .before .before .before .before .before .before .before .before .before .before .before .before .before .before .before .before .before .before .before .before .before .before .before .before .before .before .before .before .before .before .before .before .before .before .before .before .before .before .before .before .before .before .before .before .before .before .before .before .before .before .before .before .before .before .before .before .before .before .before .before .before .before .before .before .before .before .before .before .before .before .before .before .before .before .before .if2 .left) in
+    let fits = sym sized-is ∙ not-false _ (c .before .before .before .before .before .before .before .before .before .before .before .before .before .before .before .before .before .before .before .before .before .before .before .before .before .before .before .before .before .before .before .before .before .before .before .before .before .before .before .before .before .before .before .before .before .before .before .before .before .before .before .before .before .before .before .before .before .before .before .before .before .before .before .before .before .before .before .before .before .before .before .before .before .before .before .before .before .if2 .left) in
     let refers-is = c .before .before .before .before .before .before .before .before .before .before .before .before .before .before .before .before .before .before .before .before .before .before .before .before .before .before .before .before .before .before .before .before .before .before .before .before .before .before .before .before .before .before .before .before .before .before .before .before .before .before .before .before .before .before .before .before .before .before .before .before .before .before .before .refers .ensures p (tabled-program q) (moving-program q) refl in
     let referred = met p (refers p) _ refers-is (c .before .before .before .before .before .before .before .before .before .before .before .before .before .before .before .before .before .before .before .before .before .before .before .before .before .before .before .before .before .before .before .before .before .before .before .before .before .before .before .before .before .before .before .before .before .before .before .before .before .before .before .before .before .before .before .before .before .before .before .before .before .before .if3 .left) in
     let counting = c .before .before .before .before .before .before .before .before .before .before .before .before .before .before .before .before .before .before .before .before .before .before .before .before .before .before .before .before .before .before .before .before .before .before .before .before .before .before .before .before .before .before .before .before .before .before .before .before .before .before .before .before .before .before .before .count-rows .ensures in

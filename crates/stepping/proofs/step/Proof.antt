@@ -1,10 +1,10 @@
 -- `stepping::step` meets its contract: a program that is not sound is refused.
 use mathlib.Core.Path.{sym, _∙_}
-use native.Mathlib.Omega.{arith}
 use borrow.Author.Needs.{needs}
+use borrow.Author.Tests.{not-false}
 use Rattle.lists.specs.Facts.{not-true}
 use Rattle.soundness.specs.Sound.{sound-is}
-use Rattle.stepping.specs.Stepping.{not-false, step-unsound}
+use Rattle.stepping.specs.Stepping.{step-unsound}
 use Rattle.stepping.proofs.step.Statement.{statement}
 use Rattle.stepping.proofs.step.Tie as tie
 
