@@ -11,7 +11,7 @@ use native.Mathlib.Numerals.{add-one}
 use native.Mathlib.Omega.{arith}
 use lib.Dec.{eqb}
 use lib.ListN.{length, drop, getD, set, length-map, length-set, List·getD-map, drop-of-length-le}
-use lib.Seq.{drop-cons, getD-set-same, getD-set-other}
+use lib.Seq.{ext-getD, drop-cons, getD-set-same, getD-set-other}
 use Rattle.lists.specs.Lists.{at}
 use Rattle.lists.specs.Facts.{has, first-has, or-right, All-at}
 use Rattle.rows.specs.Seek.{table-length, table-get}
@@ -43,6 +43,26 @@ pub record Written (vs : List Value) (out : List ℕ) : Type 0 where
   pub size : length out ≡ 19
   pub values : (j : ℕ) → j < 16 → getD out j 0 ≡ codeOf (getD vs j undefined)
   pub rest : (j : ℕ) → 16 ≤ j → getD out j 0 ≡ 0
+
+-- the first n of them zero
+pub record Cleared (n : ℕ) (out : List ℕ) : Type 0 where
+  pub size : length out ≡ 19
+  pub zeros : (j : ℕ) → j < n → getD out j 0 ≡ 0
+
+-- none
+pub cleared-none : (out : List ℕ) → length out ≡ 19 → Cleared 0 out
+cleared-none out e = record { size = e; zeros = λ j b. absurd (omega arith) }
+
+-- one more
+pub cleared-more : (n : ℕ) (out : List ℕ) → n < 19 → Cleared n out → Cleared (n + 1) (set out n 0)
+cleared-more n out h c = record {
+  size = length-set out n 0 ∙ c .size;
+  zeros = λ j b. dite (ℕ-discrete j n) (λ e. rw e (getD-set-same out n 0 0 (omega (arith, c .size)))) (λ e. getD-set-other out n j 0 0 e ∙ c .zeros j (omega (arith, e)));
+}
+
+-- and all, which is one list
+cleared-is : (out blank : List ℕ) → Cleared 19 out → length blank ≡ 19 → ((j : ℕ) → getD blank j 0 ≡ 0) → out ≡ blank
+cleared-is out blank h e z = ext-getD 0 out blank (h .size ∙ sym e) (λ j b. h .zeros j (omega (arith, h .size)) ∙ sym (z j))
 
 -- where nothing is set, all are zero
 written-blank : (xs : List Variable) (out : List ℕ) → length out ≡ 19 → ((j : ℕ) → getD out j 0 ≡ 0) → Written (map (λ v. undefined) xs) out
@@ -90,10 +110,10 @@ module _ {k z n w : ℕ} {exprs places kinds types inits values out₀ : List �
   abbrev pub initsOf : Option (List Value)
   initsOf = act.inits (q .p) (q .m .this) (q .m .loc) w (q .kind) (pairsOf inits z n) 0 (blank (q .p) (q .kind))
 
-  -- WHAT IS LEFT: the values, written; or one does not suit
+  -- WHAT IS LEFT: the values, written; or one does not suit, and nothing is
   abbrev pub Begun : Bool → List ℕ → Type 0
   Begun true out = (vs : List Value) × ((initsOf ≡ some vs) × ((length vs ≡ length (variablesOf (q .p) (q .kind))) × Written vs out))
-  Begun false out = initsOf ≡ none
+  Begun false out = (initsOf ≡ none) × (out ≡ out₀)
 
   -- after j pairs
   pub record Working (j rest : ℕ) (out : List ℕ) : Type 0 where
@@ -182,8 +202,8 @@ module _ {k z n w : ℕ} {exprs places kinds types inits values out₀ : List �
           ∙ ap (λ l. act.inits (q .p) (q .m .this) (q .m .loc) w (q .kind) l (work .taken) (work .vs)) (sym (drop-cons (pairsOf inits z n) j (0, 0) h)) ∙ work .same
 
       -- the value does not suit
-      pub inits-wrong : false ≡ suits (at noVariable (decode.variablesOf kinds types) (getD inits ((z + j) * 2) 0) .type) (valueOf (u % REST)) → Begun false out
-      inits-wrong t = sym opened ∙ rw (tested false t)
+      pub inits-wrong : false ≡ suits (at noVariable (decode.variablesOf kinds types) (getD inits ((z + j) * 2) 0) .type) (valueOf (u % REST)) → (clear : List ℕ) → Cleared 19 clear → Begun false clear
+      inits-wrong t clear d = (sym opened ∙ rw (tested false t), cleared-is clear out₀ d (q .out-size) (q .out-zero))
 
       -- it does
       pub inits-more : true ≡ suits (at noVariable (decode.variablesOf kinds types) (getD inits ((z + j) * 2) 0) .type) (valueOf (u % REST))

@@ -2,8 +2,9 @@
 use tables::Program;
 ghost use mathlib.Core.Path.{_≡_};
 ghost use Prim.Native.Nat.{_-_, min};
+ghost use lib.ListN.{length};
 ghost use Rattle.programs.specs.Sizes.{EXPRS};
-ghost use Rattle.beginnings.specs.Inits.{InitsAsked, Begun};
+ghost use Rattle.beginnings.specs.Inits.{Cleared, InitsAsked, Begun};
 ghost use Rattle.beginnings.specs.Initial.{initialIn};
 
 // Where the bits begin in what an expression gives: above every value's number.
@@ -36,7 +37,20 @@ fn pairs_there(i: usize, n: usize) -> usize
     Program::EXPRESSIONS - i
 }
 
-// THE VALUES OF `init`: the n pairs from place z on, each value worked out in the machine in room k and put to its variable's place; false where one does not suit.
+// No value at all.
+fn clear(out: &mut [u64; Program::VARIABLES + 3])
+    requires { ⌜ length (now out) ≡ 19 ⌝ }
+    ensures { λ _. ⌜ Cleared 19 (now (out .exit)) ⌝ }
+{
+    let mut j: usize = 0;
+    while j < Program::VARIABLES + 3 {
+        out[j] = 0;
+        j += 1;
+    }
+}
+
+// THE VALUES OF `init`: the n pairs from place z on, each value worked out in the machine in room k and put to its variable's place; false where one does not suit, and
+// then `out` as it was, without a value.
 pub fn init_values<'a>(
     exprs: &[u32; 3 * (Program::EXPRESSIONS + 1)],
     places: &[u8; Program::ALL_VARIABLES + 1],
@@ -64,6 +78,7 @@ pub fn init_values<'a>(
         let u = evaluation::eval(exprs, places, values, at, e, rest);
         let ty = tables::variable_type(kinds, types, x);
         if !values::suits(ty, codes::value_of(u % REST)) {
+            clear(out);
             return false;
         }
         out[index(places[x])] = u % REST;

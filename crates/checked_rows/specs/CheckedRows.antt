@@ -28,6 +28,7 @@ use Rattle.parts.specs.Parts.{rowAt, Said, awaits, row-part, isSkipHead, isSeqH
 use Rattle.zeros.specs.Zeros.{Zeros}
 use Rattle.configs.specs.Reversed.{downTo-length}
 use Rattle.zeros.specs.Packed.{reverse-down, packed, unpacked}
+use Rattle.marks.specs.Sheet.{says-at}
 use Rattle.marks.specs.Marks.{Heights, Served}
 
 -- WHAT IS ASKED
@@ -169,7 +170,7 @@ module _ (stmts heights served : List ℕ) (pending : Bool) (p : Program) (q : P
       there t = (t .0 .0, rw many (t .0 .1))
 
       serving : There (count STMTS stmts) s × (eqb (getD served (k * 1025 + s) 0) 0 ≡ false) → serves p k s ≡ true
-      serving t = sym (told .serving .serves-at k s from-1 kinds (there t .0) (there t .1)) ∙ ap not (t .1)
+      serving t = sym (says-at (told .serving) k s from-1 kinds (omega (arith, t .0 .1)) (there t .1)) ∙ ap not (t .1)
 
       small : Suits served (count STMTS stmts) k s → s ≤ 1024
       small (inl e) = omega arith
@@ -186,7 +187,7 @@ module _ (stmts heights served : List ℕ) (pending : Bool) (p : Program) (q : P
       there t = (t .0 .0, rw many at (t .0 .1))
 
       marked : There (length (p .stmts)) s × (serves p k s ≡ true) → eqb (getD served (k * 1025 + s) 0) 0 ≡ false
-      marked t = unless _ (told .serving .serves-at k s from-1 kinds (t .0 .0) (t .0 .1) ∙ t .1)
+      marked t = unless _ (says-at (told .serving) k s from-1 kinds (omega (arith, there t .1)) (t .0 .1) ∙ t .1)
         where
           unless : (a : Bool) → not a ≡ true → a ≡ false
           unless true e = sym e

@@ -145,7 +145,7 @@ module _ {k x m z n w : ℕ} {exprs places variables types stmts inits owners en
       -- 15: one does not suit
       pub new-wrong : Begun to-inits false out' → Created t α (Refused WrongType) ids kinds depths tops values counts parts next
       unfolding to-inits
-      new-wrong h = rw h (refl, refl)
+      new-wrong h = rw (h .0) (refl, refl)
 
       module _ (begun : Begun to-inits true out') where
         -- 18: the live numbers are spent,

@@ -83,20 +83,32 @@ module _ (p : Program) where
       moved : (y : ℕ) → any (eqb y) (x ∷ e ++ l) ≡ any (eqb y) (e ++ x ∷ l)
       moved y = rw (any-append (eqb y) e l, any-append (eqb y) e (x ∷ l)) (or-swap (eqb y x) (any (eqb y) e) (any (eqb y) l))
 
--- these numbers were named one after the other: r says whether one of them was named before
+-- the marks with those of these numbers set
+abbrev pub stamped : List ℕ → List ℕ → List ℕ
+stamped [] seen = seen
+stamped (x ∷ names) seen = stamped names (set seen x 1)
+
+-- of two lists
+stamped-append : (l m seen : List ℕ) → stamped (l ++ m) seen ≡ stamped m (stamped l seen)
+stamped-append [] m seen = refl
+stamped-append (x ∷ l) m seen = stamped-append l m (set seen x 1)
+
+-- these numbers were named one after the other: r says whether one of them was named before, and their marks are set
 pub record Named (seen names : List ℕ) (r : Bool) (after : List ℕ) : Type 0 where
   pub tells : (p : Program) (e : List ℕ) → Seen seen e → r ≡ again p e names
   pub keeps : (e : List ℕ) → Seen seen e → Seen after (e ++ names)
+  pub marks : after ≡ stamped names seen
 
 -- none
 pub named-none : (seen : List ℕ) → Named seen [] false seen
-named-none seen = record { tells = λ p e s. refl; keeps = λ e s. rw (append-nil e) s }
+named-none seen = record { tells = λ p e s. refl; keeps = λ e s. rw (append-nil e) s; marks = refl }
 
 -- one
 pub named-one : (seen : List ℕ) (x : ℕ) {r : Bool} → x < 65536 → r ≡ not (eqb x 0) && not (eqb (getD seen x 0) 0) → Named seen (x ∷ []) r (set seen x 1)
 named-one seen x h q = record {
   tells = λ p e s. q ∙ rw (s .mark x h, not-not (any (eqb x) e), or-none (not (eqb x 0) && any (eqb x) e));
   keeps = λ e s. seen-more seen e x h s;
+  marks = refl;
 }
 
 -- some, then others
@@ -104,6 +116,7 @@ pub named-both : {seen l : List ℕ} {a : Bool} {then m : List ℕ} {b : Bool} {
 named-both {seen} {l} {a} {then} {m} {b} {after} f g = record {
   tells = λ p e s. rw (f .tells p e s, g .tells p (e ++ l) (f .keeps e s)) (sym (again-append p e l m));
   keeps = λ e s. rw (append-assoc e l m) at (g .keeps (e ++ l) (f .keeps e s));
+  marks = g .marks ∙ ap (stamped m) (f .marks) ∙ sym (stamped-append l m seen);
 }
 
 -- the first j of a list, and the next

@@ -2,15 +2,14 @@
 -- marked first, and then the marks are passed on to their operands.
 use Prim.Native.Nat.{ℕ, zero, suc, _+_, _-_, _*_, _≤_, _<_, min}
 use mathlib.Core.Path.{_≡_, refl, ap, sym, _∙_}
-use mathlib.Core.Bool.{Bool, true, false, not, cond, _&&_, _||_}
+use mathlib.Core.Bool.{Bool, true, false, cond, _&&_, _||_}
 use mathlib.Core.List.{List, [], _∷_, map}
 use mathlib.Core.Logic.{inl, inr, ⊎-elim, dite}
 use native.Mathlib.Decide.{ℕ-discrete}
 use native.Mathlib.Numerals.{add-one}
 use native.Mathlib.Omega.{arith}
 use borrow.Author.Tests.{ne-eqb}
-use lib.Dec.{eqb}
-use lib.ListN.{length, getD}
+use lib.ListN.{length, getD, set, length-set}
 use Rattle.lists.specs.Lists.{at, any}
 use Rattle.rows.specs.Part.{Off}
 use Rattle.rows.specs.Seek.{table}
@@ -23,15 +22,15 @@ use Rattle.programs.specs.Statements.{exprsOf, serves, holds, servesFrom, exprS
 use Rattle.tables.specs.declared.Head.{Head}
 use Rattle.tables.specs.Decode.{count, exprsOf as expressions, headAt, pairIn, pairsOf, stmtOf, stmtsOf}
 use Rattle.tables.specs.Tables.{exprs-length, stmts-length, stmt-head}
+use Rattle.marks.specs.Sheet.{Marking, says-at, Sheet, sheet-none, sheet-more, marking}
 use Rattle.marks.specs.Marks.{Served}
 use Rattle.marks.specs.Inner.{operandsIn, operands-past}
-use Rattle.marks.specs.Flow.{or-false, on, markLow, markAll, reach, left, left-marks, left-ext, left-none, flowed, flowed-length, flowed-on, flowed-off, all-length, all-off}
+use Rattle.marks.specs.Flow.{or-false, on, markLow, markAll, reach, left, left-marks, left-ext, left-none, flowed, flowed-keeps, flowed-on, flowed-off, all-keeps, same-length, same-off}
 use Rattle.marks.specs.Kinds.{or-front}
 
--- `marks` has a mark at k * 1025 + e where expression e serves kind k
-pub record ExprServed (p : Program) (marks : List ℕ) : Type 0 where
-  pub size : length marks ≡ 17425
-  pub serves-at : (k e : ℕ) → 1 ≤ k → k ≤ 16 → 1 ≤ e → e ≤ length (p .exprs) → not (eqb (getD marks (k * 1025 + e) 0) 0) ≡ exprServes p k e
+-- `marks` has at k * 1025 + e a 1 where expression e serves kind k, and everywhere else 0
+abbrev pub ExprServed : Program → List ℕ → Type 0
+ExprServed p marks = Marking (length (p .exprs)) (exprServes p) marks
 
 -- the expressions that statement s names
 abbrev pub named : List ℕ → List ℕ → ℕ → List ℕ
@@ -65,33 +64,28 @@ and-swap false false = refl
 
 -- A ROW'S FIRST MARKS
 module _ (stmts inits served : List ℕ) (x b : ℕ) where
-  -- keep the length
-  root-length : (s : ℕ) (l : List ℕ) → length (rootOf stmts inits served x b s l) ≡ length l
-  root-length s l = go (on served b s)
-    where
-      go : (c : Bool) → length (cond c (markAll b (x + 1) (named stmts inits s) l) l) ≡ length l
-      go true = all-length b (x + 1) (named stmts inits s) l
-      go false = refl
+  module _ (P : List ℕ → Type 0) (one : (l : List ℕ) (t : ℕ) → t < x + 1 → P l → P (set l (b + t) 1)) where
+    -- keep what a mark in the row does
+    root-keeps : (s : ℕ) (l : List ℕ) → P l → P (rootOf stmts inits served x b s l)
+    root-keeps s l h = go (on served b s)
+      where
+        go : (c : Bool) → P (cond c (markAll b (x + 1) (named stmts inits s) l) l)
+        go true = all-keeps P b (x + 1) one (named stmts inits s) l h
+        go false = h
 
-  -- all of them too
+    -- all of them too
+    rooted-keeps : (ss l : List ℕ) → P l → P (rooted stmts inits served x b ss l)
+    unfolding rooted
+    rooted-keeps [] l h = h
+    rooted-keeps (s ∷ ss) l h = root-keeps s (rooted stmts inits served x b ss l) (rooted-keeps ss l h)
+
+  -- the length
   rooted-length : (ss l : List ℕ) → length (rooted stmts inits served x b ss l) ≡ length l
-  unfolding rooted
-  rooted-length [] l = refl
-  rooted-length (s ∷ ss) l = root-length s (rooted stmts inits served x b ss l) ∙ rooted-length ss l
+  rooted-length ss l = rooted-keeps (λ m. length m ≡ length l) (same-length b (x + 1) l) ss l refl
 
-  -- leave what is off the row
-  root-off : (s : ℕ) (l : List ℕ) (j : ℕ) → Off b (x + 1) j → getD (rootOf stmts inits served x b s l) j 0 ≡ getD l j 0
-  root-off s l j o = go (on served b s)
-    where
-      go : (c : Bool) → getD (cond c (markAll b (x + 1) (named stmts inits s) l) l) j 0 ≡ getD l j 0
-      go true = all-off b (x + 1) (named stmts inits s) l j o
-      go false = refl
-
-  -- all of them too
+  -- and what is off the row
   rooted-off : (ss l : List ℕ) (j : ℕ) → Off b (x + 1) j → getD (rooted stmts inits served x b ss l) j 0 ≡ getD l j 0
-  unfolding rooted
-  rooted-off [] l j o = refl
-  rooted-off (s ∷ ss) l j o = root-off s (rooted stmts inits served x b ss l) j o ∙ rooted-off ss l j o
+  rooted-off ss l j o = rooted-keeps (λ m. getD m j 0 ≡ getD l j 0) (same-off b (x + 1) l j o) ss l refl
 
   module _ (kids : ℕ → List ℕ) (e : ℕ) (past : (m : ℕ) → x < m → kids m ≡ []) (there : e ≤ x) where
     -- and lead to what is inside them
@@ -113,13 +107,18 @@ module _ (stmts inits served : List ℕ) (x b : ℕ) where
 
 -- ALL ROWS
 module _ (exprs stmts inits served : List ℕ) (x n : ℕ) (fits : x ≤ 1024) where
-  -- all rows keep the length
-  rows-length : (k : ℕ) (l : List ℕ) → length (rowsOf exprs stmts inits served x n k l) ≡ length l
+  -- keep what a mark of an expression that is there does
+  rows-keeps : (P : List ℕ → Type 0) → ((l : List ℕ) (k t : ℕ) → 1 ≤ k → k ≤ 16 → t ≤ x → P l → P (set l (k * 1025 + t) 1))
+      → (k : ℕ) → k ≤ 16 → (l : List ℕ) → P l → P (rowsOf exprs stmts inits served x n k l)
   unfolding rowsOf
-  rows-length zero l = refl
-  rows-length (suc k) l =
-      flowed-length (operandsIn exprs) (suc k * 1025) x (rooted stmts inits served x (suc k * 1025) (table (λ s. s) 1 n) (rowsOf exprs stmts inits served x n k l))
-      ∙ rooted-length stmts inits served x (suc k * 1025) (table (λ s. s) 1 n) (rowsOf exprs stmts inits served x n k l) ∙ rows-length k l
+  rows-keeps P one zero a l h = h
+  rows-keeps P one (suc k) a l h =
+      flowed-keeps P (suc k * 1025) (operandsIn exprs) x (λ m t q. one m (suc k) t (omega arith) a (omega arith)) (rooted stmts inits served x (suc k * 1025) (table (λ s. s) 1 n) (rowsOf exprs stmts inits served x n k l))
+      (rooted-keeps stmts inits served x (suc k * 1025) P (λ m t q. one m (suc k) t (omega arith) a (omega arith)) (table (λ s. s) 1 n) (rowsOf exprs stmts inits served x n k l) (rows-keeps P one k (omega arith) l h))
+
+  -- the length
+  rows-length : (k : ℕ) → k ≤ 16 → (l : List ℕ) → length (rowsOf exprs stmts inits served x n k l) ≡ length l
+  rows-length k a l = rows-keeps (λ m. length m ≡ length l) (λ m j t b c d e. length-set m (j * 1025 + t) 1 ∙ e) k a l refl
 
   -- one row leaves the others
   row-off : (k : ℕ) (l : List ℕ) (j : ℕ) → Off (k * 1025) 1025 j → getD (rowOf exprs stmts inits served x n k l) j 0 ≡ getD l j 0
@@ -133,7 +132,7 @@ module _ (exprs stmts inits served : List ℕ) (x n : ℕ) (fits : x ≤ 1024) w
   rows-off zero l j h = refl
   rows-off (suc k) l j h = row-off (suc k) (rowsOf exprs stmts inits served x n k l) j (inr (omega arith)) ∙ rows-off k l j (omega arith)
 
-  module _ (e k : ℕ) (past : (m : ℕ) → x < m → operandsIn exprs m ≡ []) (some : 1 ≤ e) (there : e ≤ x) (first : 1 ≤ k) where
+  module _ (e k : ℕ) (past : (m : ℕ) → x < m → operandsIn exprs m ≡ []) (there : e ≤ x) (first : 1 ≤ k) where
     -- what a kind's row says in the end
     rows-on : (j : ℕ) (l : List ℕ) → k ≤ j → j ≤ 16 → length l ≡ 17425 → ((i : ℕ) → getD l i 0 ≡ 0)
         → on (rowsOf exprs stmts inits served x n j l) (k * 1025) e ≡ any (λ s. on served (k * 1025) s && any (reach (operandsIn exprs) e) (named stmts inits s)) (table (λ s. s) 1 n)
@@ -141,8 +140,8 @@ module _ (exprs stmts inits served : List ℕ) (x n : ℕ) (fits : x ≤ 1024) w
     rows-on zero l h i size zeros = absurd (omega arith)
     rows-on (suc j) l h i size zeros = dite (ℕ-discrete k (suc j))
         (λ q. rw q (flowed-on (operandsIn exprs) e (suc j * 1025) x (rooted stmts inits served x (suc j * 1025) (table (λ s. s) 1 n) (rowsOf exprs stmts inits served x n j l))
-        (rw (rooted-length stmts inits served x (suc j * 1025) (table (λ s. s) 1 n) (rowsOf exprs stmts inits served x n j l), rows-length j l) (omega arith)) refl some
-        ∙ left-rooted stmts inits served x (suc j * 1025) (operandsIn exprs) e past there (table (λ s. s) 1 n) (rowsOf exprs stmts inits served x n j l) (rw (rows-length j l) (omega arith))
+        (rw (rooted-length stmts inits served x (suc j * 1025) (table (λ s. s) 1 n) (rowsOf exprs stmts inits served x n j l), rows-length j (omega arith) l) (omega arith)) refl
+        ∙ left-rooted stmts inits served x (suc j * 1025) (operandsIn exprs) e past there (table (λ s. s) 1 n) (rowsOf exprs stmts inits served x n j l) (rw (rows-length j (omega arith) l) (omega arith))
         ∙ rw (left-ext (operandsIn exprs) e (rowsOf exprs stmts inits served x n j l) l (suc j * 1025) x there (λ m b. rows-off j l (suc j * 1025 + m) (omega arith)), left-none (operandsIn exprs) e l (suc j * 1025) x zeros)))
         (λ q. rw (row-off (suc j) (rowsOf exprs stmts inits served x n j l) (k * 1025 + e) (inl (omega arith))) (rows-on j l (omega arith) (omega arith) size zeros))
 
@@ -187,24 +186,24 @@ module _ (exprs stmts inits served : List ℕ) (p : Program) (same-exprs : p .ex
       → on served (k * 1025) s && any (reach (operandsIn exprs) e) (named stmts inits s) ≡ holds p e (stmtAt p s) && serves p k s
   stmt-says k e s a b c d =
       let t : at skip (p .stmts) s ≡ stmtOf inits (headAt stmts s) = ap (λ l. at skip l s) same-stmts ∙ stmt-head stmts inits s in
-      rw (h .serves-at k s a b c (omega (arith, ap length same-stmts, stmts-length stmts inits)), t, any-inside e (named stmts inits s)) (and-swap (serves p k s) (any (exprInside p e) (named stmts inits s)))
+      rw (says-at h k s a b (omega arith) (omega (arith, ap length same-stmts, stmts-length stmts inits)), t, any-inside e (named stmts inits s)) (and-swap (serves p k s) (any (exprInside p e) (named stmts inits s)))
 
   -- the mark of expression e in kind k's row
-  marks-at : (zeros : List ℕ) → length zeros ≡ 17425 → ((i : ℕ) → getD zeros i 0 ≡ 0) → (k e : ℕ) → 1 ≤ k → k ≤ 16 → 1 ≤ e → e ≤ length (p .exprs)
+  marks-at : (zeros : List ℕ) → length zeros ≡ 17425 → ((i : ℕ) → getD zeros i 0 ≡ 0) → (k e : ℕ) → 1 ≤ k → k ≤ 16 → e ≤ count EXPRS exprs
       → on (rowsOf exprs stmts inits served (count EXPRS exprs) (count STMTS stmts) 16 zeros) (k * 1025) e ≡ exprServes p k e
-  marks-at zeros size nothing k e a b c d =
-      rows-on exprs stmts inits served (count EXPRS exprs) (count STMTS stmts) (omega arith) e k (operands-past exprs) c (omega (arith, ap length same-exprs, exprs-length exprs)) a 16 zeros b (omega arith) size nothing
+  marks-at zeros size nothing k e a b c =
+      rows-on exprs stmts inits served (count EXPRS exprs) (count STMTS stmts) (omega arith) e k (operands-past exprs) c a 16 zeros b (omega arith) size nothing
       ∙ any-ext (λ s. on served (k * 1025) s && any (reach (operandsIn exprs) e) (named stmts inits s)) (λ s. holds p e (stmtAt p s) && serves p k s) 1 (count STMTS stmts) (λ s i j. stmt-says k e s a b i j)
       ∙ sym (serves-any p k e ∙ ap (λ n. any (λ s. holds p e (stmtAt p s) && serves p k s) (table (λ s. s) 1 n)) (ap length same-stmts ∙ stmts-length stmts inits))
 
   -- all of it
   pub named-all : (zeros : List ℕ) → length zeros ≡ 17425 → ((i : ℕ) → getD zeros i 0 ≡ 0) → (x n k : ℕ) (l : List ℕ) → x ≡ count EXPRS exprs → n ≡ count STMTS stmts → k ≡ 16
       → l ≡ rowsOf exprs stmts inits served x n k zeros → ExprServed p l
-  named-all zeros size nothing x n k l e f g i =
-      rw (i, e, f, g) (record {
-        size = rows-length exprs stmts inits served (count EXPRS exprs) (count STMTS stmts) (omega arith) 16 zeros ∙ size;
-        serves-at = marks-at zeros size nothing;
-      })
+  named-all zeros size nothing x n k l e f g i = rw (i, e, f, g, ap length same-exprs ∙ exprs-length exprs) (marking (exprServes p) sheet (marks-at zeros size nothing))
+    where
+      sheet : Sheet (count EXPRS exprs) (rowsOf exprs stmts inits served (count EXPRS exprs) (count STMTS stmts) 16 zeros)
+      sheet = rows-keeps exprs stmts inits served (count EXPRS exprs) (count STMTS stmts) (omega arith) (Sheet (count EXPRS exprs)) (sheet-more (count EXPRS exprs) (omega arith)) 16 (omega arith) zeros
+          (sheet-none (count EXPRS exprs) zeros size nothing)
 
 -- FOR THE CODE
 -- the statement names none,

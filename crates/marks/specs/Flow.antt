@@ -4,7 +4,7 @@ use Prim.Native.Nat.{ℕ, zero, suc, _+_, _-_, _≤_, _<_}
 use mathlib.Core.Path.{_≡_, refl, ap, sym, _∙_}
 use mathlib.Core.Bool.{Bool, true, false, not, cond, _&&_, _||_}
 use mathlib.Core.List.{List, [], _∷_}
-use mathlib.Core.Logic.{inl, inr, ⊎-elim, dite}
+use mathlib.Core.Logic.{⊎-elim, dite}
 use native.Mathlib.Decide.{ℕ-discrete}
 use native.Mathlib.Numerals.{add-one}
 use native.Mathlib.Omega.{arith}
@@ -84,34 +84,67 @@ or-swap false true false = refl
 or-swap false false true = refl
 or-swap false false false = refl
 
--- LENGTHS
+-- WHAT MARKS KEEP, where a mark in the row does
+module _ (P : List ℕ → Type 0) (b : ℕ) where
+  -- one mark, of a number that is lower than n
+  low-keeps : (n : ℕ) → ((l : List ℕ) (t : ℕ) → t < n → P l → P (set l (b + t) 1)) → (t : ℕ) (l : List ℕ) → P l → P (markLow b n t l)
+  low-keeps n one t l h = ⊎-elim
+      (λ (q : t < n). rw (lt-ltb t n q) (one l t q h))
+      (λ (q : n ≤ t). rw (le-ltb t n q) h)
+      (below? t n)
+
+  -- marks of these numbers
+  pub all-keeps : (n : ℕ) → ((l : List ℕ) (t : ℕ) → t < n → P l → P (set l (b + t) 1)) → (ts l : List ℕ) → P l → P (markAll b n ts l)
+  unfolding markAll
+  all-keeps n one [] l h = h
+  all-keeps n one (t ∷ ts) l h = all-keeps n one ts (markLow b n t l) (low-keeps n one t l h)
+
+  -- a turn
+  passed-keeps : (kids : ℕ → List ℕ) (n : ℕ) → ((l : List ℕ) (t : ℕ) → t < n → P l → P (set l (b + t) 1)) → (l : List ℕ) → P l → P (passed kids b n l)
+  unfolding passed
+  passed-keeps kids n one l h = go (on l b n)
+    where
+      go : (c : Bool) → P (cond c (markAll b n (kids n) l) l)
+      go true = all-keeps n one (kids n) l h
+      go false = h
+
+  -- all turns of a row
+  pub flowed-keeps : (kids : ℕ → List ℕ) (n : ℕ) → ((l : List ℕ) (t : ℕ) → t < n → P l → P (set l (b + t) 1)) → (l : List ℕ) → P l → P (flowed kids b n l)
+  unfolding flowed
+  flowed-keeps kids zero one l h = h
+  flowed-keeps kids (suc n) one l h = flowed-keeps kids n (λ m t q. one m t (omega arith)) (passed kids b (suc n) l) (passed-keeps kids (suc n) one l h)
+
+-- the length: one mark
+pub same-length : (b n : ℕ) (l m : List ℕ) (t : ℕ) → t < n → length m ≡ length l → length (set m (b + t) 1) ≡ length l
+same-length b n l m t h e = length-set m (b + t) 1 ∙ e
+
+-- a mark, where it is lower than n
 low-length : (b n t : ℕ) (l : List ℕ) → length (markLow b n t l) ≡ length l
-low-length b n t l = go (ltb t n)
-  where
-    go : (c : Bool) → length (cond c (set l (b + t) 1) l) ≡ length l
-    go true = length-set l (b + t) 1
-    go false = refl
+low-length b n t l = low-keeps (λ m. length m ≡ length l) b n (same-length b n l) t l refl
 
--- marks keep the length
+-- marks of these numbers
 pub all-length : (b n : ℕ) (ts l : List ℕ) → length (markAll b n ts l) ≡ length l
-unfolding markAll
-all-length b n [] l = refl
-all-length b n (t ∷ ts) l = all-length b n ts (markLow b n t l) ∙ low-length b n t l
+all-length b n ts l = all-keeps (λ m. length m ≡ length l) b n (same-length b n l) ts l refl
 
--- and so does a turn
+-- a turn
 passed-length : (kids : ℕ → List ℕ) (b n : ℕ) (l : List ℕ) → length (passed kids b n l) ≡ length l
-unfolding passed
-passed-length kids b n l = go (on l b n)
-  where
-    go : (c : Bool) → length (cond c (markAll b n (kids n) l) l) ≡ length l
-    go true = all-length b n (kids n) l
-    go false = refl
+passed-length kids b n l = passed-keeps (λ m. length m ≡ length l) b kids n (same-length b n l) l refl
 
--- the turns keep the length
+-- all turns of a row
 pub flowed-length : (kids : ℕ → List ℕ) (b n : ℕ) (l : List ℕ) → length (flowed kids b n l) ≡ length l
-unfolding flowed
-flowed-length kids b zero l = refl
-flowed-length kids b (suc n) l = flowed-length kids b n (passed kids b (suc n) l) ∙ passed-length kids b (suc n) l
+flowed-length kids b n l = flowed-keeps (λ m. length m ≡ length l) b kids n (same-length b n l) l refl
+
+-- and what is off the row: one mark
+pub same-off : (b n : ℕ) (l : List ℕ) (j : ℕ) → Off b n j → (m : List ℕ) (t : ℕ) → t < n → getD m j 0 ≡ getD l j 0 → getD (set m (b + t) 1) j 0 ≡ getD l j 0
+same-off b n l j o m t h e = getD-set-other m (b + t) j 1 0 (λ z. ⊎-elim (λ (q : j < b). omega arith) (λ (q : b + n ≤ j). omega arith) o) ∙ e
+
+-- marks of these numbers
+pub all-off : (b n : ℕ) (ts l : List ℕ) (j : ℕ) → Off b n j → getD (markAll b n ts l) j 0 ≡ getD l j 0
+all-off b n ts l j o = all-keeps (λ m. getD m j 0 ≡ getD l j 0) b n (same-off b n l j o) ts l refl
+
+-- all turns of a row
+pub flowed-off : (kids : ℕ → List ℕ) (b n : ℕ) (l : List ℕ) (j : ℕ) → Off b n j → getD (flowed kids b n l) j 0 ≡ getD l j 0
+flowed-off kids b n l j o = flowed-keeps (λ m. getD m j 0 ≡ getD l j 0) b kids n (same-off b n l j o) l refl
 
 -- ONE OF MANY
 -- the same tests
@@ -275,13 +308,19 @@ module _ (kids : ℕ → List ℕ) (s : ℕ) where
   left-flowed b (suc n) l e = left-flowed b n (passed kids b (suc n) l) (rw (passed-length kids b (suc n) l) (omega arith)) ∙ left-passed l b n (omega arith)
 
   -- when all had their turns, the mark of s says it
-  left-end : (l : List ℕ) (b : ℕ) → kids 0 ≡ [] → 1 ≤ s → left l b 0 ≡ on l b s
+  left-end : (l : List ℕ) (b : ℕ) → kids 0 ≡ [] → left l b 0 ≡ on l b s
   unfolding left among
-  left-end l b e h = rw (reach-leaf 0 e (λ z. omega arith), lt-ltb 0 s h, and-false)
+  left-end l b e = dite (ℕ-discrete 0 s)
+      (λ q. rw (reach-here 0, e, ← q) (both (on l b 0)))
+      (λ q. rw (reach-leaf 0 e q, lt-ltb 0 s (omega (arith, q)), and-false))
+    where
+      both : (a : Bool) → (a && true) || false ≡ a
+      both true = refl
+      both false = refl
 
   -- THE law of a row
-  pub flowed-on : (b n : ℕ) (l : List ℕ) → b + n ≤ length l → kids 0 ≡ [] → 1 ≤ s → on (flowed kids b n l) b s ≡ left l b n
-  flowed-on b n l e z h = sym (left-end (flowed kids b n l) b z h) ∙ left-flowed b n l e
+  pub flowed-on : (b n : ℕ) (l : List ℕ) → b + n ≤ length l → kids 0 ≡ [] → on (flowed kids b n l) b s ≡ left l b n
+  flowed-on b n l e z = sym (left-end (flowed kids b n l) b z) ∙ left-flowed b n l e
 
   -- where s is not above n, only the marks up to n matter
   pub left-ext : (l m : List ℕ) (b n : ℕ) → s ≤ n → ((i : ℕ) → i ≤ n → getD l (b + i) 0 ≡ getD m (b + i) 0) → left l b n ≡ left m b n
@@ -292,36 +331,6 @@ module _ (kids : ℕ → List ℕ) (s : ℕ) where
   pub left-none : (l : List ℕ) (b n : ℕ) → ((i : ℕ) → getD l i 0 ≡ 0) → left l b n ≡ false
   unfolding left
   left-none l b n f = rw (among-none (λ i. on l b i && reach i) n (λ i. rw (f (b + i))), f (b + s), and-false)
-
--- OFF THE ROW nothing changes
-low-off : (b n t : ℕ) (l : List ℕ) (j : ℕ) → Off b n j → getD (markLow b n t l) j 0 ≡ getD l j 0
-low-off b n t l j o = ⊎-elim
-    (λ (h : t < n). rw (lt-ltb t n h) (getD-set-other l (b + t) j 1 0 (λ e. ⊎-elim (λ (q : j < b). omega arith) (λ (q : b + n ≤ j). omega arith) o)))
-    (λ (h : n ≤ t). rw (le-ltb t n h))
-    (below? t n)
-
--- by marks of a row
-pub all-off : (b n : ℕ) (ts l : List ℕ) (j : ℕ) → Off b n j → getD (markAll b n ts l) j 0 ≡ getD l j 0
-unfolding markAll
-all-off b n [] l j o = refl
-all-off b n (t ∷ ts) l j o = all-off b n ts (markLow b n t l) j o ∙ low-off b n t l j o
-
--- by a turn
-passed-off : (kids : ℕ → List ℕ) (b n : ℕ) (l : List ℕ) (j : ℕ) → Off b n j → getD (passed kids b n l) j 0 ≡ getD l j 0
-unfolding passed
-passed-off kids b n l j o = go (on l b n)
-  where
-    go : (c : Bool) → getD (cond c (markAll b n (kids n) l) l) j 0 ≡ getD l j 0
-    go true = all-off b n (kids n) l j o
-    go false = refl
-
--- by all turns of a row
-pub flowed-off : (kids : ℕ → List ℕ) (b n : ℕ) (l : List ℕ) (j : ℕ) → Off b n j → getD (flowed kids b n l) j 0 ≡ getD l j 0
-unfolding flowed
-flowed-off kids b zero l j o = refl
-flowed-off kids b (suc n) l j o =
-    flowed-off kids b n (passed kids b (suc n) l) j (⊎-elim (λ (q : j < b). inl q) (λ (q : b + suc n ≤ j). inr (omega arith)) o)
-    ∙ passed-off kids b (suc n) l j o
 
 -- FOR THE CODE
 -- nothing in it,

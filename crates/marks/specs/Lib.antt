@@ -1,3 +1,5 @@
+-- a table of marks, a row for each kind
+pub mod Sheet
 -- what the tables hold: heights of statements, and which statement serves which kind
 pub mod Marks
 -- the numbers in a statement or an expression

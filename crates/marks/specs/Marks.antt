@@ -1,24 +1,22 @@
 -- Two tables that are worked out of a program: the height of each statement, and for each kind the statements that serve it.
-use Prim.Native.Nat.{ℕ, _+_, _*_, _≤_}
+use Prim.Native.Nat.{ℕ, _≤_}
 use mathlib.Core.Path.{_≡_, refl}
-use mathlib.Core.Bool.{not}
 use mathlib.Core.List.{List}
-use lib.Dec.{eqb}
 use lib.ListN.{length, getD}
 use Rattle.programs.specs.Program.{Program}
 use Rattle.programs.specs.Statements.{height, serves}
 use Rattle.tables.specs.declared.Program.{Program as Tables}
 use Rattle.tables.specs.Decode.{stmtsOf, actionsOf, statesOf, programOf}
+use Rattle.marks.specs.Sheet.{Marking}
 
 -- `heights` holds the height of each statement; 0 and what is absent have height 1
 pub record Heights (p : Program) (heights : List ℕ) : Type 0 where
   pub size : length heights ≡ 1025
   pub height-of : (s : ℕ) → s ≤ 1024 → getD heights s 0 ≡ height p s
 
--- `served` has a mark at k * 1025 + s where statement s serves kind k
-pub record Served (p : Program) (served : List ℕ) : Type 0 where
-  pub size : length served ≡ 17425
-  pub serves-at : (k s : ℕ) → 1 ≤ k → k ≤ 16 → 1 ≤ s → s ≤ length (p .stmts) → not (eqb (getD served (k * 1025 + s) 0) 0) ≡ serves p k s
+-- `served` has at k * 1025 + s a 1 where statement s serves kind k, and everywhere else 0
+abbrev pub Served : Program → List ℕ → Type 0
+Served p served = Marking (length (p .stmts)) (serves p) served
 
 -- p is a program with these statements
 pub record Stated (stmts : List ℕ) (p : Program) : Type 0 where

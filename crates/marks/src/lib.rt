@@ -147,6 +147,9 @@ fn mark(marks: &mut [u8; (Program::KINDS + 1) * (Program::STATEMENTS + 1)], n: u
 {
     let i = k as usize;
     let j = r as usize;
+    if i == 0 {
+        return;
+    }
     if Program::KINDS < i {
         return;
     }

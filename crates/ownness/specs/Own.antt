@@ -31,6 +31,7 @@ use Rattle.soundness.specs.Sound.{lines, numbered, firstFault}
 use Rattle.fronts.specs.First.{firstBad, bad-ext, table-bad}
 use Rattle.fronts.specs.Asking.{Told, front-is, termLine, terms-fault}
 use Rattle.marks.specs.Marks.{Served}
+use Rattle.marks.specs.Sheet.{says-at}
 use Rattle.marks.specs.Flow.{on}
 use Rattle.expr_marks.specs.Naming.{ExprServed}
 
@@ -134,7 +135,7 @@ module _ (types : List ℕ) (kinds : ℕ) (variableOf exprs stmts inits served m
   leaf-test n a b bot = refl
   leaf-test n a b (intVal z) = refl
   leaf-test n a b (boolVal c) = refl
-  leaf-test n a b (var x) = of-kinds (λ k. exprServes p k n) marks n x (λ k i j. sym (m .serves-at k n i (omega arith) a (omega (arith, exprs-many))))
+  leaf-test n a b (var x) = of-kinds (λ k. exprServes p k n) marks n x (λ k i j. sym (says-at m k n i (omega arith) (omega arith) (omega (arith, exprs-many))))
   leaf-test n a b this = refl
   leaf-test n a b msg = refl
   leaf-test n a b arg = refl
@@ -153,7 +154,7 @@ module _ (types : List ℕ) (kinds : ℕ) (variableOf exprs stmts inits served m
 
   -- a variable of a statement
   stmt-kinds : (n : ℕ) → 1 ≤ n → n < 1 + count STMTS stmts → (x : ℕ) → upTo (p .machines) (λ k. not (serves p k n) || eqb (variableAt p x .of) k) ≡ ownAt served kinds n (kindIn variableOf x)
-  stmt-kinds n a b x = of-kinds (λ k. serves p k n) served n x (λ k i j. sym (h .serves-at k n i (omega arith) a (omega (arith, stmts-many))))
+  stmt-kinds n a b x = of-kinds (λ k. serves p k n) served n x (λ k i j. sym (says-at h k n i (omega arith) (omega arith) (omega (arith, stmts-many))))
 
   -- a statement's
   head-test : (n : ℕ) → 1 ≤ n → n < 1 + count STMTS stmts → (t : Head) → stmtOwn p n (stmtOf inits t) .test ≡ ownHead served kinds variableOf inits n t

@@ -83,9 +83,15 @@ value-of-requires c κs = search needs
 suits-requires : tie.Need-suits-requires Inv-loop μ-loop
 suits-requires c κs = search needs
 
+clear-requires : tie.Need-clear-requires Inv-loop μ-loop
+clear-requires c κs =
+    let l = c .before .before .before .before .before .before .before .before .before .before .before in
+    l .loop .inv .1 (l .before .before .before .before .pre) .written .size
+
 returns : tie.Need-returns Inv-loop μ-loop
 returns c =
-    let suit = c .before in
+    let wrong = c .before .before in
+    let suit = wrong .before in
     let value = suit .before in
     let type = value .before in
     let eval = type .before in
@@ -98,7 +104,7 @@ returns c =
     let first = p .before .before .wide .ensures in
     λ q. inits-wrong q (l .loop .j) (omega (arith, pairs-count q, p .pairs-there .ensures, p .before .wide2 .ensures, first, test .loop-test .taken)) (l .loop .rest) (eval .eval .result) (l .loop .out)
     (l .loop .inv .1 q) (rw (e .wide4 .ensures, first) at (eval .eval .ensures))
-    (sym (not-true (suit .suits .result) (c .if1 .taken)) ∙ rw (type .variable-type .ensures, value .value-of .ensures, x .wide3 .ensures, first) at (suit .suits .ensures))
+    (sym (not-true (suit .suits .result) (wrong .if1 .taken)) ∙ rw (type .variable-type .ensures, value .value-of .ensures, x .wide3 .ensures, first) at (suit .suits .ensures)) _ (c .clear .ensures)
 
 element-copy-out-index : tie.Need-element-copy-out-index Inv-loop μ-loop
 element-copy-out-index c =
@@ -187,6 +193,7 @@ init-values-spec =
     variable-type-requires
     value-of-requires
     suits-requires
+    clear-requires
     returns
     element-copy-out-index
     index-requires

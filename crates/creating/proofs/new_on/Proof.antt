@@ -17,7 +17,7 @@ init-values-requires c κs = to-inits (c .before .before .pre) (replicate 19 0) 
 returns : tie.Need-returns
 returns c =
     let begun = c .before in
-    λ q t α. new-wrong q (replicate 19 0) refl (zeros 19) (replicate 19 0) t α (rw (not-true (begun .init-values .result) (c .if1 .taken)) at (begun .init-values .ensures (to-inits q (replicate 19 0) refl (zeros 19))))
+    λ q t α. new-wrong q (replicate 19 0) refl (zeros 19) _ t α (rw (not-true (begun .init-values .result) (c .if1 .taken)) at (begun .init-values .ensures (to-inits q (replicate 19 0) refl (zeros 19))))
 
 returns-2 : tie.Need-returns-2
 returns-2 c =
