@@ -12,6 +12,7 @@ use borrow.Author.Tests.{ne-eqb}
 use lib.Dec.{eqb}
 use lib.ListN.{length, getD}
 use Rattle.lists.specs.Lists.{at, any}
+use Rattle.lists.specs.Facts.{or-false}
 use Rattle.rows.specs.Part.{Off}
 use Rattle.rows.specs.Seek.{table}
 use Rattle.programs.specs.declared.Leaf.the-variants.{Bot as bot}
@@ -25,7 +26,7 @@ use Rattle.tables.specs.Decode.{count, exprsOf as expressions, headAt, pairIn, 
 use Rattle.tables.specs.Tables.{exprs-length, stmts-length, stmt-head}
 use Rattle.marks.specs.Marks.{Served}
 use Rattle.marks.specs.Inner.{operandsIn, operands-past}
-use Rattle.marks.specs.Flow.{or-false, on, markLow, markAll, reach, left, left-marks, left-ext, left-none, flowed, flowed-length, flowed-on, flowed-off, all-length, all-off}
+use Rattle.marks.specs.Flow.{on, markLow, markAll, reach, left, left-marks, left-ext, left-none, flowed, flowed-length, flowed-on, flowed-off, all-length, all-off}
 use Rattle.marks.specs.Kinds.{or-front}
 
 -- `marks` has a mark at k * 1025 + e where expression e serves kind k
