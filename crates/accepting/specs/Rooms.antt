@@ -4,12 +4,12 @@ use Prim.Native.Nat.{ℕ, zero, suc, _+_, _≤_, _<_}
 use mathlib.Core.Path.{_≡_, refl, ap, sym, _∙_}
 use mathlib.Core.Option.{none, some}
 use mathlib.Core.Bool.{Bool, cond}
-use mathlib.Core.List.{List, [], _∷_, _++_, map, reverse, head-eq-of-cons-eq, tail-eq-of-cons-eq}
+use mathlib.Core.List.{[], _∷_, _++_, map, reverse}
 use native.Mathlib.Nat.{zero-add}
 use native.Mathlib.Omega.{arith}
 use lib.ListN.{length, getD, length-map}
 use borrow.Author.Tests.{eq-eqb, ne-eqb}
-use Rattle.lists.specs.Keep.{map-back}
+use Rattle.lists.specs.Keep.{map-back, back-map, All-image, image-All}
 use Rattle.configs.specs.Reversed.{downTo-length}
 use Rattle.lists.specs.Lists.{All, flat}
 use Rattle.rows.specs.Pad.{pad}
@@ -52,20 +52,6 @@ module _ {A : Type 0} (P : A → Type 0) (g : ℕ → A) where
   table-up : (n : ℕ) → All P (table g 0 n) → (j : ℕ) → j < n → P (g j)
   table-up n h j b = rw (zero-add j) at (all-table 0 n h j b)
 
--- of a table's image
-map-all : {A B : Type 0} (P : B → Type 0) (g : A → B) (l : List A) → All (λ x. P (g x)) l → All P (map g l)
-map-all P g [] h = tt
-map-all P g (x ∷ l) h = (h .0, map-all P g l (h .1))
-
-all-map : {A B : Type 0} (P : B → Type 0) (g : A → B) (l : List A) → All P (map g l) → All (λ x. P (g x)) l
-all-map P g [] h = tt
-all-map P g (x ∷ l) h = (h .0, all-map P g l (h .1))
-
--- and a change of each element that leaves the list as it is
-map-same : {A B : Type 0} (g : A → B) (h : B → A) (l : List A) → map h (map g l) ≡ l → All (λ x. h (g x) ≡ x) l
-map-same g h [] e = tt
-map-same g h (x ∷ l) e = (head-eq-of-cons-eq e, map-same g h l (tail-eq-of-cons-eq e))
-
 -- THE WHOLE CONFIGURATION
 module _ (p : Program) (f : Flat) where
   rooms-length : length (flatConfig p f .rooms) ≡ 32
@@ -76,7 +62,7 @@ module _ (p : Program) (f : Flat) where
   whole h d low high = (
     record {
       rooms-32 = rooms-length;
-      each-room = map-all (RoomOk p (f .next)) (roomOf p) (table (roomAt f) 0 32) (up-table (λ r. RoomOk p (f .next) (roomOf p r)) (roomAt f) 32 (λ j b. h j b .ok));
+      each-room = All-image (RoomOk p (f .next)) (roomOf p) (table (roomAt f) 0 32) (up-table (λ r. RoomOk p (f .next) (roomOf p r)) (roomAt f) 32 (λ j b. h j b .ok));
       distinct = d;
       next-low = low;
       next-high = high;
@@ -87,8 +73,8 @@ module _ (p : Program) (f : Flat) where
   -- and what the configuration tells of each room
   pub each-fit : Accepted p (flatConfig p f) → Zeroed p (held f) → (k : ℕ) → k < 32 → RoomFit p f k
   each-fit a z k b = record {
-    ok = table-up (λ r. RoomOk p (f .next) (roomOf p r)) (roomAt f) 32 (all-map (RoomOk p (f .next)) (roomOf p) (table (roomAt f) 0 32) (a .each-room)) k b;
-    written = table-up (λ r. roomCode (roomOf p r) ≡ r) (roomAt f) 32 (map-same (roomOf p) roomCode (table (roomAt f) 0 32) (ap (λ (c : Held). c .rooms) z)) k b;
+    ok = table-up (λ r. RoomOk p (f .next) (roomOf p r)) (roomAt f) 32 (image-All (RoomOk p (f .next)) (roomOf p) (table (roomAt f) 0 32) (a .each-room)) k b;
+    written = table-up (λ r. roomCode (roomOf p r) ≡ r) (roomAt f) 32 (back-map roomCode (roomOf p) (table (roomAt f) 0 32) (ap (λ (c : Held). c .rooms) z)) k b;
   }
 
 -- A LIVE ROOM, field by field, with the machine m that it reads as

@@ -1,5 +1,5 @@
 -- The values of `init`, one after the other: what the loop of src/lib.rt has worked out after j of the pairs, and that in the end it is what the definitions have.
-use Prim.Native.Nat.{ℕ, zero, suc, _+_, _-_, _*_, _/_, _%_, _^_, _≤_, _<_, min}
+use Prim.Native.Nat.{ℕ, zero, suc, _+_, _-_, _*_, _/_, _%_, _^_, _≤_, _<_}
 use mathlib.Core.Path.{_≡_, refl, sym, ap, _∙_, subst}
 use mathlib.Core.Logic.{dite}
 use mathlib.Core.Option.{Option, none, some}
@@ -14,11 +14,10 @@ use lib.ListN.{length, drop, getD, set, length-map, length-set, List·getD-map, 
 use lib.Seq.{ext-getD, drop-cons, getD-set-same, getD-set-other}
 use Rattle.lists.specs.Lists.{at}
 use Rattle.lists.specs.Facts.{has, first-has, or-right, All-at}
-use Rattle.rows.specs.Seek.{table-length, table-get}
+use Rattle.rows.specs.Seek.{table-length}
 use Rattle.values.specs.declared.Value.{Value}
 use Rattle.values.specs.declared.Value.the-variants.{Undefined as undefined}
 use Rattle.values.specs.Values.{suits}
-use Rattle.programs.specs.Sizes.{EXPRS}
 use Rattle.programs.specs.Program.{Program, Variable, new, stmtAt, variableAt, variablesOf, place}
 use Rattle.programs.specs.Statements as statements
 use Rattle.programs.specs.Trees.{tree, stars}
@@ -31,6 +30,7 @@ use Rattle.rules.specs.Act as act
 use Rattle.codes.specs.Codes.{codeOf, valueOf}
 use Rattle.tables.specs.Decode as decode
 use Rattle.tables.specs.Decode.{noVariable, pairIn, pairsOf}
+use Rattle.tables.specs.Tables.{pairs-length, pairs-get}
 use Rattle.index.specs.Index.{Places}
 use Rattle.evaluation.specs.Evaluated.{REST, evaluated, Readable}
 use Rattle.configs.specs.Flat.{Flat}
@@ -126,11 +126,6 @@ module _ {k z n w : ℕ} {exprs places kinds types inits values out₀ : List �
     pub written : Written vs out
 
   -- THE PAIRS
-  -- as many as the pool has
-  pub pairs-count : length (pairsOf inits z n) ≡ min n (EXPRS - z)
-  unfolding pairsOf
-  pairs-count = table-length (pairIn inits) z (min n (EXPRS - z))
-
   -- what the head names
   named : Refers (q .p) (q .m .loc .kind) (new (q .x) (q .kind) (pairsOf inits z n))
   named = head-refers (q .p) (q .f .next) (q .m .loc) (q .s) (q .r) (new (q .x) (q .kind) (pairsOf inits z n)) (q .sound) (q .stands .ok .loc-ok) (q .row) (q .head)
@@ -146,8 +141,7 @@ module _ {k z n w : ℕ} {exprs places kinds types inits values out₀ : List �
   module _ (j : ℕ) (h : j < length (pairsOf inits z n)) where
     -- pair j stands in the pool
     pair-is : getD (pairsOf inits z n) j (0, 0) ≡ pairIn inits (z + j)
-    unfolding pairsOf
-    pair-is = table-get (pairIn inits) (0, 0) z (min n (EXPRS - z)) j (omega (arith, pairs-count))
+    pair-is = pairs-get inits z n j (omega (arith, pairs-length inits z n))
 
     -- its variable is one of the kind
     variable-of : VariableOf (q .p) (q .kind) (getD inits ((z + j) * 2) 0)

@@ -1,25 +1,27 @@
 -- What is asked of a queue that is handed in as a count and a row of 16 numbers, and how its test goes about it: number by number, from the last to the first.
 use Prim.Native.Nat.{ℕ, zero, suc, _+_, _-_, _*_, _≤_, _<_}
-use mathlib.Core.Path.{_≡_, refl, ap, sym, _∙_}
+use mathlib.Core.Path.{_≡_, ap, sym, _∙_}
 use mathlib.Core.Bool.{Bool, false}
 use mathlib.Core.List.{List, [], _∷_, map}
-use mathlib.Core.Logic.{⊎-elim}
 use native.Mathlib.Numerals.{add-one}
 use native.Mathlib.Omega.{arith}
 use lib.Dec.{eqb}
-use lib.ListN.{length, take, drop, getD, length-map, List·getD-eq-default}
-use lib.Seq.{drop-cons, drop-drop, getD-take, length-take-le, take-nil, take-take}
+use lib.ListN.{length, take, drop, getD, length-map}
+use lib.Seq.{drop-cons, drop-drop, length-take-le, take-nil}
 use Rattle.lists.specs.Lists.{any, All}
+use Rattle.lists.specs.Keep.{map-back, back-map}
 use Rattle.lists.specs.Tells.{Tells, form}
-use Rattle.rows.specs.Pad.{pad, pad-ext, pad-get, pad-take, below?}
-use Rattle.rows.specs.Part.{part, part-get, part-length}
+use Rattle.rows.specs.Pad.{pad, pad-take}
+use Rattle.rows.specs.Part.{part, part-front, part-length}
 use Rattle.programs.specs.Program.{Program}
 use Rattle.acceptance.specs.Accepted.{PairOk, QueueOk, NoneTwice}
 use Rattle.codes.specs.Pairs.{CanonicalPair}
 use Rattle.configs.specs.Decode.{pairOf}
 use Rattle.configs.specs.Encode.{pairNumber}
 use Rattle.queues.specs.Meaning.{waits-number}
-use Rattle.checked_values.specs.Numbers.{PairNumber, Zeros}
+use Rattle.zeros.specs.Zeros.{Zeros}
+use Rattle.zeros.specs.Packed.{packed, unpacked}
+use Rattle.checked_values.specs.Numbers.{PairNumber}
 
 -- n pairs wait in a row of 16 numbers: they are accepted, as many as are counted, and writing them gives the row again
 pub record QueueHeld (p : Program) (next n : ℕ) (row : List ℕ) : Type 0 where
@@ -96,8 +98,7 @@ module _ (p : Program) (next : ℕ) where
 
   -- so writing the pairs gives them again
   written-all : (l : List ℕ) → Apart p next l → map pairNumber (map pairOf l) ≡ l
-  written-all [] h = refl
-  written-all (x ∷ l) h = rw (h .0 .written, written-all l (h .1 .1))
+  written-all l h = map-back pairNumber pairOf l (canonical-all l h)
 
   -- the pairs are accepted
   pairs-all : (l : List ℕ) → Apart p next l → All (PairOk p next) (map pairOf l)
@@ -115,11 +116,6 @@ module _ (p : Program) (next : ℕ) where
   apart-all (x ∷ l) c o s =
       (record { written = c .0; pair = o .0 }, (waits-number x l (c .0) (c .1) ∙ s .0, apart-all l (c .1) (o .1) (s .1)))
 
--- numbers that the pairs are written as are canonical
-canonical-of : (l : List ℕ) → map pairNumber (map pairOf l) ≡ l → All CanonicalPair l
-canonical-of [] e = tt
-canonical-of (x ∷ l) e = (ap (λ (t : List ℕ). getD t 0 0) e, canonical-of l (ap (λ (t : List ℕ). drop 1 t) e))
-
 -- THE QUEUE
 module _ (p : Program) (next n : ℕ) (row : List ℕ) (long : length row ≡ 16) where
   -- as many numbers as are counted, where they are no more than 16
@@ -127,19 +123,12 @@ module _ (p : Program) (next n : ℕ) (row : List ℕ) (long : length row ≡ 16
   count-is h = length-take-le n row (omega arith)
 
   -- from the numbers to the queue
-  pub queue-held : n ≤ 16 → Apart p next (take n row) → Zeros n (16 - n) row → QueueHeld p next n row
+  pub queue-held : n ≤ 16 → Apart p next (take n row) → pad 0 16 (take n row) ≡ row → QueueHeld p next n row
   queue-held h a z = record {
     accepted = record { size = omega (arith, length-map (take n row) pairOf, count-is h); pairs = pairs-all p next (take n row) a; once = once-all p next (take n row) a };
     counted = length-map (take n row) pairOf ∙ count-is h;
-    written = rw (written-all p next (take n row) a) (sym (pad-ext 0 16 row (take n row) long (omega (arith, count-is h)) same));
+    written = rw (written-all p next (take n row) a) z;
   }
-    where
-      same : (i : ℕ) → i < 16 → getD row i 0 ≡ getD (take n row) i 0
-      same i l = ⊎-elim
-          (λ (b : i < n). sym (getD-take n row i 0 b))
-          (λ (b : n ≤ i). let e : n + (i - n) ≡ i = omega arith in
-          (rw e at (z (i - n) (omega arith))) ∙ sym (List·getD-eq-default (take n row) 0 {n = i} (omega (arith, count-is h))))
-          (below? i n)
 
   module _ (q : QueueHeld p next n row) where
     -- no more than 16 are counted
@@ -154,13 +143,11 @@ module _ (p : Program) (next n : ℕ) (row : List ℕ) (long : length row ≡ 16
 
     -- the numbers are apart
     pub held-apart : Apart p next (take n row)
-    held-apart = apart-all p next (take n row) (canonical-of (take n row) front) (q .accepted .pairs) (q .accepted .once)
+    held-apart = apart-all p next (take n row) (back-map pairNumber pairOf (take n row) front) (q .accepted .pairs) (q .accepted .once)
 
     -- zeros stand behind them
-    pub held-zeros : Zeros n (16 - n) row
-    held-zeros j h =
-        ap (λ (l : List ℕ). getD l (n + j) 0) (sym (q .written)) ∙ pad-get 0 16 (map pairNumber (map pairOf (take n row))) (n + j)
-        ∙ List·getD-eq-default (map pairNumber (map pairOf (take n row))) 0 {n = n + j} (omega (arith, length-map (map pairOf (take n row)) pairNumber, q .counted))
+    pub held-packed : pad 0 16 (take n row) ≡ row
+    held-packed = ap (pad 0 16) (sym front) ∙ q .written
 
 -- ROOM i's QUEUE in the flat list
 module _ (p : Program) (next n : ℕ) (pairs : List ℕ) (i : ℕ) (long : length pairs ≡ 512) (room : i < 32) where
@@ -168,25 +155,16 @@ module _ (p : Program) (next n : ℕ) (pairs : List ℕ) (i : ℕ) (long : lengt
   row-length : length (part (i * 16) 16 pairs) ≡ 16
   row-length = part-length (i * 16) 16 pairs (omega arith)
 
-  -- the first n of them
-  row-front : n ≤ 16 → take n (part (i * 16) 16 pairs) ≡ part (i * 16) n pairs
-  unfolding part
-  row-front h = take-take n 16 (drop (i * 16) pairs) h
-
-  -- place n + j of them
-  row-place : (j : ℕ) → n + j < 16 → getD (part (i * 16) 16 pairs) (n + j) 0 ≡ getD pairs (i * 16 + n + j) 0
-  row-place j h = let e : i * 16 + (n + j) ≡ i * 16 + n + j = omega arith in part-get (i * 16) 16 pairs (n + j) 0 h ∙ ap (λ (k : ℕ). getD pairs k 0) e
-
   -- too many are counted
   pub told-many : 16 < n → QueueHeld p next n (part (i * 16) 16 pairs) → ⊥
   told-many h q = omega (arith, held-few p next n (part (i * 16) 16 pairs) row-length q)
 
   -- a number is no pair's, or stands there twice
   pub told-pairs : QueueHeld p next n (part (i * 16) 16 pairs) → Apart p next (part (i * 16) n pairs)
-  told-pairs q = rw (row-front (held-few p next n (part (i * 16) 16 pairs) row-length q)) at (held-apart p next n (part (i * 16) 16 pairs) row-length q)
+  told-pairs q = rw (part-front (i * 16) 16 n pairs (held-few p next n (part (i * 16) 16 pairs) row-length q)) at (held-apart p next n (part (i * 16) 16 pairs) row-length q)
 
   -- the pairs are as they should be: the zeros decide
-  pub told-zeros : (r : Bool) → n ≤ 16 → Apart p next (part (i * 16) n pairs) → Tells r (Zeros (i * 16 + n) (16 - n) pairs) → Tells r (QueueHeld p next n (part (i * 16) 16 pairs))
+  pub told-zeros : (r : Bool) → n ≤ 16 → Apart p next (part (i * 16) n pairs) → Tells r (Zeros (i * 16 + n) (i * 16 + 16) pairs) → Tells r (QueueHeld p next n (part (i * 16) 16 pairs))
   told-zeros r h a t = form t
-      (λ z. queue-held p next n (part (i * 16) 16 pairs) row-length h (rw (row-front h) a) (λ j l. row-place j (omega arith) ∙ z j l))
-      (λ q j l. sym (row-place j (omega arith)) ∙ held-zeros p next n (part (i * 16) 16 pairs) row-length q j l)
+      (λ z. queue-held p next n (part (i * 16) 16 pairs) row-length h (rw (part-front (i * 16) 16 n pairs h) a) (packed (i * 16) 16 n pairs (omega arith) h z))
+      (λ q. unpacked (i * 16) 16 n pairs (omega arith) h (held-packed p next n (part (i * 16) 16 pairs) row-length q))

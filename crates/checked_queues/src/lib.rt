@@ -1,7 +1,7 @@
 // The test of a room's queue that is handed in: its count, its pairs, and zeros behind them. What is asked of it stands in specs/Queues.antt.
 use checked_values::pair_ok;
-use checked_values::zero_u64;
 use tables::Program;
+use zeros::zero_u64;
 ghost use mathlib.Core.Path.{_≡_};
 ghost use Prim.Native.Nat.{_+_, _*_, _≤_, _<_};
 ghost use lib.Dec.{eqb};
@@ -71,7 +71,7 @@ pub fn queue_ok(
     }
     let b = i * Program::QUEUE;
     if pairs_ok(types, pairs, b, n, next) {
-        return zero_u64(pairs, b + n, Program::QUEUE - n);
+        return zero_u64(pairs, b + n, b + Program::QUEUE);
     }
     false
 }

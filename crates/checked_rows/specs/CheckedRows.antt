@@ -11,20 +11,18 @@ use borrow.Author.Tests.{ne-eqb}
 use lib.Dec.{eqb, leb}
 use lib.ListN.{length, getD}
 use Rattle.lists.specs.Lists.{at, isSome, All, There}
-use Rattle.lists.specs.Tells.{Tells, form, isnt, is-none, at-most}
+use Rattle.lists.specs.Tells.{Tells, form, isnt, at-most}
 use Rattle.rows.specs.Pad.{pad}
 use Rattle.rows.specs.Part.{part, part-length}
 use Rattle.programs.specs.Sizes.{LIVE, ROW, STMTS, KINDS}
-use Rattle.programs.specs.Program.{Program, skip, stmtAt}
-use Rattle.programs.specs.Statements.{isSkip, isSeq, height, serves}
+use Rattle.programs.specs.Program.{Program}
+use Rattle.programs.specs.Statements.{height, serves}
 use Rattle.machines.specs.Config.{Pending, idle, raising, returning}
 use Rattle.acceptance.specs.Accepted.{PartOk, NoSeq, Formed, counted, Heights as Low, RowOk}
-use Rattle.tables.specs.declared.Head.{Head}
-use Rattle.tables.specs.declared.Head.the-variants.{Skip, Assign, New, Delete, Send, Raise, Leave, Return, Assert, Seq, If, While}
-use Rattle.tables.specs.Decode.{count, headAt, stmtOf}
-use Rattle.tables.specs.Tables.{stmt-head, stmts-length}
+use Rattle.tables.specs.Decode.{count, headAt}
+use Rattle.tables.specs.Tables.{stmts-length}
 use Rattle.configs.specs.Decode.{downTo}
-use Rattle.parts.specs.Parts.{rowAt, Said, awaits, row-part, isSkipHead, isSeqHead}
+use Rattle.parts.specs.Parts.{rowAt, Said, awaits, row-part, isSkipHead, isSeqHead, head-skip, head-seqs, head-none}
 use Rattle.zeros.specs.Zeros.{Zeros}
 use Rattle.configs.specs.Reversed.{downTo-length}
 use Rattle.zeros.specs.Packed.{reverse-down, packed, unpacked}
@@ -95,57 +93,9 @@ pub record RowFits (stmts heights served parts : List ℕ) (b n k : ℕ) (pendin
   pub each : PartsFit heights served parts (count STMTS stmts) b n k (one pending)
   pub head : (l : ℕ) → l + 1 ≡ n → HeadFits stmts (alone n pending) (getD parts (b + l) 0)
 
--- HEADS
--- a statement is a skip where its head is,
-skip-head : (inits : List ℕ) (h : Head) → isSkip (stmtOf inits h) ≡ isSkipHead h
-skip-head inits Skip = refl
-skip-head inits (Assign x e) = refl
-skip-head inits (New x k i n) = refl
-skip-head inits Delete = refl
-skip-head inits (Send t e a) = refl
-skip-head inits (Raise e a) = refl
-skip-head inits Leave = refl
-skip-head inits Return = refl
-skip-head inits (Assert e) = refl
-skip-head inits (Seq a b) = refl
-skip-head inits (If e a b) = refl
-skip-head inits (While e a) = refl
-
--- and a seq where its head is.
-seq-head : (inits : List ℕ) (h : Head) → isSome (isSeq (stmtOf inits h)) ≡ isSeqHead h
-seq-head inits Skip = refl
-seq-head inits (Assign x e) = refl
-seq-head inits (New x k i n) = refl
-seq-head inits Delete = refl
-seq-head inits (Send t e a) = refl
-seq-head inits (Raise e a) = refl
-seq-head inits Leave = refl
-seq-head inits Return = refl
-seq-head inits (Assert e) = refl
-seq-head inits (Seq a b) = refl
-seq-head inits (If e a b) = refl
-seq-head inits (While e a) = refl
-
-module _ (stmts : List ℕ) (p : Program) (said : Said stmts p) (s : ℕ) where
-  -- statement s is its head with its init list
-  head-is : stmtAt p s ≡ stmtOf (said .inits) (headAt stmts s)
-  head-is = ap (λ l. at skip l s) (said .same) ∙ stmt-head stmts (said .inits) s
-
-  -- a skip where the head is one,
-  skip-is : isSkip (stmtAt p s) ≡ isSkipHead (headAt stmts s)
-  skip-is = ap isSkip head-is ∙ skip-head (said .inits) (headAt stmts s)
-
-  -- a seq where the head is one:
-  seq-is : isSome (isSeq (stmtAt p s)) ≡ isSeqHead (headAt stmts s)
-  seq-is = ap (λ t. isSome (isSeq t)) head-is ∙ seq-head (said .inits) (headAt stmts s)
-
-  -- none where it is none,
-  seq-none : isSeqHead (headAt stmts s) ≡ false → NoSeq p s
-  seq-none h = is-none (isSeq (stmtAt p s)) .holds (ap not (seq-is ∙ h))
-
-  -- and the other way round.
-  none-seq : NoSeq p s → isSeqHead (headAt stmts s) ≡ false
-  none-seq h = sym seq-is ∙ ap isSome h
+-- a statement that is no seq has a head that is none
+none-seq : (stmts : List ℕ) (p : Program) → Said stmts p → (s : ℕ) → NoSeq p s → isSeqHead (headAt stmts s) ≡ false
+none-seq stmts p said s h = sym (head-seqs stmts p said s) ∙ ap isSome h
 
 -- A ROW OF A PROGRAM
 module _ (stmts heights served : List ℕ) (pending : Bool) (p : Program) (q : Pending) (told : Told stmts heights served pending p q) (parts : List ℕ) (b k : ℕ) (from-1 : 1 ≤ k) (kinds : k ≤ KINDS) where
@@ -215,14 +165,14 @@ module _ (stmts heights served : List ℕ) (pending : Bool) (p : Program) (q : P
   -- a row is in form by its head,
   form-holds : (n : ℕ) → ((l : ℕ) → l + 1 ≡ n → HeadFits stmts (alone n pending) (getD parts (b + l) 0)) → Formed p (rowAt b n parts) q
   form-holds zero h = tt
-  form-holds (suc (suc n)) h = seq-none stmts p (told .said) (getD parts (b + suc n) 0) (h (suc n) (omega arith) .no-seq)
+  form-holds (suc (suc n)) h = head-none stmts p (told .said) (getD parts (b + suc n) 0) (h (suc n) (omega arith) .no-seq)
   form-holds (suc zero) h = go q (told .flag)
     where
       no : NoSeq p (getD parts (b + 0) 0)
-      no = seq-none stmts p (told .said) (getD parts (b + 0) 0) (h 0 (omega arith) .no-seq)
+      no = head-none stmts p (told .said) (getD parts (b + 0) 0) (h 0 (omega arith) .no-seq)
 
       go : (q : Pending) → awaits q ≡ pending → Formed p (rowAt b 1 parts) q
-      go idle e = (no, skip-is stmts p (told .said) (getD parts (b + 0) 0) ∙ h 0 (omega arith) .no-skip (ap (alone 1) (sym e)))
+      go idle e = (no, head-skip stmts p (told .said) (getD parts (b + 0) 0) ∙ h 0 (omega arith) .no-skip (ap (alone 1) (sym e)))
       go (raising x v) e = no
       go returning e = no
 
@@ -240,7 +190,7 @@ module _ (stmts heights served : List ℕ) (pending : Bool) (p : Program) (q : P
   form-fits (suc zero) h l e = let i : l ≡ 0 = omega arith in rw i (go q (told .flag) h)
     where
       go : (q : Pending) → awaits q ≡ pending → Formed p (rowAt b 1 parts) q → HeadFits stmts (alone 1 pending) (getD parts (b + 0) 0)
-      go idle e h = record { no-seq = none-seq stmts p (told .said) (getD parts (b + 0) 0) (h .0); no-skip = λ t. sym (skip-is stmts p (told .said) (getD parts (b + 0) 0)) ∙ h .1 }
+      go idle e h = record { no-seq = none-seq stmts p (told .said) (getD parts (b + 0) 0) (h .0); no-skip = λ t. sym (head-skip stmts p (told .said) (getD parts (b + 0) 0)) ∙ h .1 }
       go (raising x v) e h = record { no-seq = none-seq stmts p (told .said) (getD parts (b + 0) 0) h; no-skip = λ t. absurd (true≢false (sym t ∙ ap (alone 1) (sym e))) }
       go returning e h = record { no-seq = none-seq stmts p (told .said) (getD parts (b + 0) 0) h; no-skip = λ t. absurd (true≢false (sym t ∙ ap (alone 1) (sym e))) }
 

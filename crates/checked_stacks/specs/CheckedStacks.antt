@@ -26,6 +26,7 @@ use Rattle.tables.specs.Numbered.{at-row}
 use Rattle.configs.specs.Decode.{downTo, replyOf, frameAt}
 use Rattle.configs.specs.Encode.{replyCode, mapCodes}
 use Rattle.lists.specs.Keep.{All-reverse}
+use Rattle.configs.specs.RoundTrip.{noFrame, code-back}
 use Rattle.configs.specs.Reversed.{padded-part, downTo-at, downTo-length}
 use Rattle.zeros.specs.Zeros.{Zeros}
 use Rattle.zeros.specs.Packed.{reverse-down, packed, unpacked}
@@ -97,18 +98,10 @@ pub record StackFits (state-of action-of states maps : List ℕ) (i depth k even
   pub with-maps : MapsFit action-of maps k events depth (i * (STACK * EVENTS))
 
 -- A STACK OF A PROGRAM
--- an entry is written as the number that it was read from
-code-back : (x : ℕ) → replyCode (replyOf x) ≡ x
-code-back x = dite (ℕ-discrete x 0) (λ z. rw z) (λ z. dite (ℕ-discrete x 255) (λ t. rw t) (λ t. rw (ne-eqb x 0 z, ne-eqb x 255 t)))
-
--- and so is a list of them
+-- a list of entries is written as the numbers that they were read from
 codes-back : (l : List ℕ) → map replyCode (map replyOf l) ≡ l
 codes-back [] = refl
 codes-back (x ∷ l) = rw (code-back x, codes-back l)
-
--- a frame that stands in no stack: the default
-abbrev noFrame : Frame
-noFrame = record { state = 0; map = [] }
 
 module _ (state-of action-of : List ℕ) (events : ℕ) (p : Program) (told : Told state-of action-of events p) (k : ℕ) where
   -- as many states,

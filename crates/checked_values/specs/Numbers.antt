@@ -1,9 +1,7 @@
 -- What is asked of a number that is handed in for a value, for a pair, or for what is pending: that what it reads as is accepted, and that writing that gives
 -- the number again.
-use Prim.Native.Nat.{ℕ, _+_, _<_}
+use Prim.Native.Nat.{ℕ}
 use mathlib.Core.Path.{_≡_}
-use mathlib.Core.List.{List}
-use lib.ListN.{getD}
 use Rattle.values.specs.declared.Ty.{Ty}
 use Rattle.programs.specs.Program.{Program}
 use Rattle.acceptance.specs.Accepted.{ValueOk, Typed, PairOk, PendingOk}
@@ -31,7 +29,3 @@ pub record PairNumber (p : Program) (next x : ℕ) : Type 0 where
 pub record HeldNumber (p : Program) (next x : ℕ) : Type 0 where
   pub written : heldCode (pendingOf x) ≡ x
   pub pending : PendingOk p next (pendingOf x)
-
--- the n places from b on are unused: zero
-abbrev pub Zeros : ℕ → ℕ → List ℕ → Type 0
-Zeros b n l = (j : ℕ) → j < n → getD l (b + j) 0 ≡ 0

@@ -1,4 +1,4 @@
-// The test of what is handed in, number by number: a value, a pair, what is pending, and places that are unused. Each answers whether the number is one
+// The test of what is handed in, number by number: a value, a pair, and what is pending. Each answers whether the number is one
 // that an accepted configuration holds; what that asks stands in specs/Numbers.antt.
 use codes::canonical;
 use codes::value_of;
@@ -10,7 +10,6 @@ use values::Value;
 use values::suits;
 ghost use mathlib.Core.Path.{_≡_};
 ghost use mathlib.Core.Bool.{_&&_};
-ghost use Prim.Native.Nat.{_+_, _≤_};
 ghost use lib.Dec.{leb, ltb};
 ghost use lib.ListN.{length};
 ghost use Rattle.lists.specs.Lists.{there};
@@ -18,7 +17,7 @@ ghost use Rattle.lists.specs.Tells.{Tells};
 ghost use Rattle.programs.specs.Program.{Program as Lines};
 ghost use Rattle.acceptance.specs.Accepted.{ValueOk};
 ghost use Rattle.tables.specs.Decode.{eventsOf};
-ghost use Rattle.checked_values.specs.Numbers.{ValueNumber, TypedNumber, PairNumber, HeldNumber, Zeros};
+ghost use Rattle.checked_values.specs.Numbers.{ValueNumber, TypedNumber, PairNumber, HeldNumber};
 
 // Where a pair's event begins: above every value's number.
 const EVENT: u64 = 1099511627776;
@@ -96,19 +95,4 @@ pub fn pending_ok(types: &[u8; Program::EVENTS + 1], x: u64, next: u32) -> bool
         return true;
     }
     pair_ok(types, x, next)
-}
-
-// UNUSED PLACES: whether the n places from b on are zero.
-pub fn zero_u64(l: &[u64], b: usize, n: usize) -> bool
-    requires { ⌜ b + n ≤ length (now l) ⌝ }
-    ensures { λ r. ⌜ Tells r (Zeros b n (now (l .entry))) ⌝ }
-{
-    let mut j: usize = 0;
-    while j < n {
-        if l[b + j] != 0 {
-            return false;
-        }
-        j += 1;
-    }
-    true
 }

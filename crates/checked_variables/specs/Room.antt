@@ -4,16 +4,19 @@ use mathlib.Core.Path.{_≡_, ap, sym, _∙_}
 use mathlib.Core.Bool.{Bool}
 use mathlib.Core.List.{List}
 use native.Mathlib.Omega.{arith}
-use lib.ListN.{length, getD}
+use lib.ListN.{length, take, getD}
 use Rattle.lists.specs.Lists.{keep}
 use Rattle.lists.specs.Tells.{Tells, form}
-use Rattle.rows.specs.Part.{part, part-get, part-length}
+use Rattle.rows.specs.Pad.{pad}
+use Rattle.rows.specs.Part.{part, part-get, part-front, part-length}
 use Rattle.values.specs.declared.Ty.the-variants.{Event as event}
 use Rattle.values.specs.Values.{idOf}
 use Rattle.programs.specs.Program.{Program, Variable, variablesOf, isOf}
 use Rattle.codes.specs.Codes.{codeOf}
-use Rattle.checked_values.specs.Numbers.{ValueNumber, TypedNumber, Zeros}
-use Rattle.checked_variables.specs.Variables.{ValuesHeld, Fits, OwnHeld, values-held, held-few, held-fits, held-zeros, held-own}
+use Rattle.zeros.specs.Zeros.{Zeros}
+use Rattle.zeros.specs.Packed.{packed, unpacked}
+use Rattle.checked_values.specs.Numbers.{ValueNumber, TypedNumber}
+use Rattle.checked_variables.specs.Variables.{ValuesHeld, Fits, OwnHeld, values-held, held-few, held-fits, held-packed, held-own}
 
 -- THE MACHINE'S OWN THREE, of the row at b
 module _ (p : Program) (next this b : ℕ) (values : List ℕ) where
@@ -48,9 +51,13 @@ module _ (p : Program) (next kind this m : ℕ) (vars : List Variable) (values :
   count-is : length (variablesOf p kind) ≡ m
   count-is = ap (λ (l : List Variable). length l) own-vars ∙ sym e
 
-  -- place m + j of the row
-  row-place : (j : ℕ) → m + j < 19 → getD (part (i * 19) 19 values) (m + j) 0 ≡ getD values (i * 19 + m + j) 0
-  row-place j h = let s : i * 19 + (m + j) ≡ i * 19 + m + j = omega arith in part-get (i * 19) 19 values (m + j) 0 h ∙ ap (λ (k : ℕ). getD values k 0) s
+  -- the 16 places of the variables
+  front-is : take 16 (part (i * 19) 19 values) ≡ part (i * 19) 16 values
+  front-is = part-front (i * 19) 19 16 values (omega arith)
+
+  -- those that are used
+  used-is : m ≤ 16 → take (length (variablesOf p kind)) (part (i * 19) 19 values) ≡ take m (part (i * 19) 16 values)
+  used-is h = rw count-is (part-front (i * 19) 19 m values (omega arith) ∙ sym (part-front (i * 19) 16 m values h))
 
   module _ (v : ValuesHeld p next kind this (part (i * 19) 19 values)) where
     -- no more than 16 are counted
@@ -62,12 +69,14 @@ module _ (p : Program) (next kind this m : ℕ) (vars : List Variable) (values :
     told-fits = rw own-vars at (held-fits p next kind this (part (i * 19) 19 values) row-length v)
 
     -- the zeros behind them
-    pub told-zeros : Zeros (i * 19 + m) (16 - m) values
-    told-zeros j h = sym (row-place j (omega arith)) ∙ (rw count-is at (held-zeros p next kind this (part (i * 19) 19 values) row-length v)) j h
+    pub told-zeros : Zeros (i * 19 + m) (i * 19 + 16) values
+    told-zeros = unpacked (i * 19) 16 m values (omega arith) told-few
+        (ap (pad 0 16) (sym (used-is told-few)) ∙ held-packed p next kind this (part (i * 19) 19 values) row-length v ∙ front-is)
 
   -- the machine's own three decide at last
-  pub told-own : (r : Bool) → m ≤ 16 → Fits p next (keep (isOf kind) vars) (part (i * 19) 19 values) → Zeros (i * 19 + m) (16 - m) values
+  pub told-own : (r : Bool) → m ≤ 16 → Fits p next (keep (isOf kind) vars) (part (i * 19) 19 values) → Zeros (i * 19 + m) (i * 19 + 16) values
       → Tells r (OwnHeld p next this (part (i * 19) 19 values)) → Tells r (ValuesHeld p next kind this (part (i * 19) 19 values))
   told-own r h f z t = form t
-      (λ o. values-held p next kind this (part (i * 19) 19 values) row-length (omega (arith, count-is)) (rw own-vars f) (rw count-is (λ j l. row-place j (omega arith) ∙ z j l)) o)
+      (λ o. values-held p next kind this (part (i * 19) 19 values) row-length (omega (arith, count-is)) (rw own-vars f)
+      (ap (pad 0 16) (used-is h) ∙ packed (i * 19) 16 m values (omega arith) h z ∙ sym front-is) o)
       (held-own p next kind this (part (i * 19) 19 values) row-length)

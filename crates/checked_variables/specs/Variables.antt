@@ -1,19 +1,19 @@
 -- What is asked of a room's values that are handed in as a row of 19 numbers: 16 places for the variables of the kind, then `this`, `msg` and `arg`. And
 -- that it is what the test goes through: the variables' numbers one by one, zeros behind them, and the three places of the machine's own.
-use Prim.Native.Nat.{ℕ, _+_, _-_, _≤_, _<_}
+use Prim.Native.Nat.{ℕ, _+_, _-_, _≤_}
 use mathlib.Core.Path.{_≡_, refl, ap, sym, _∙_}
 use mathlib.Core.List.{List, [], _∷_, _++_, map}
-use mathlib.Core.Logic.{⊎-elim}
 use native.Mathlib.Omega.{arith}
-use lib.ListN.{length, take, drop, getD, length-append, length-drop, length-map, length-take, replicate, take-append-drop, List·getD-append, List·getD-eq-default}
-use lib.Seq.{getD-append-add, getD-drop, getD-take, length-take-le, take-append-le}
-use Rattle.rows.specs.Pad.{pad, pad-ext, pad-get, pad-take, below?}
+use lib.ListN.{length, take, drop, getD, length-append, length-drop, length-map, length-take, take-append-drop}
+use lib.Seq.{getD-append-add, getD-drop, length-take-le, take-append-le, take-at}
+use Rattle.rows.specs.Pad.{pad, pad-take}
+use Rattle.rows.specs.Runs.{pad-fits}
 use Rattle.values.specs.declared.Ty.the-variants.{Event as event}
 use Rattle.values.specs.Values.{idOf}
 use Rattle.programs.specs.Program.{Program, Variable, variablesOf}
 use Rattle.acceptance.specs.Accepted.{ValueOk, Typed, TypedAll}
 use Rattle.codes.specs.Codes.{codeOf, valueOf}
-use Rattle.checked_values.specs.Numbers.{ValueNumber, TypedNumber, Zeros}
+use Rattle.checked_values.specs.Numbers.{ValueNumber, TypedNumber}
 
 -- the values of a machine of the kind: accepted, and writing them gives the row again
 pub record ValuesHeld (p : Program) (next kind this : ℕ) (row : List ℕ) : Type 0 where
@@ -64,41 +64,24 @@ three (a ∷ b ∷ []) h = absurd (omega arith)
 three (a ∷ b ∷ c ∷ []) h = refl
 three (a ∷ b ∷ c ∷ d ∷ l) h = absurd (omega arith)
 
--- what takes n places is no longer
-pad-few : (n : ℕ) (l : List ℕ) → length (pad 0 n l) ≡ n → length l ≤ n
-unfolding pad
-pad-few n l h = omega (arith, length-append l (replicate (n - length l) 0))
-
 -- THE ROW
 module _ (p : Program) (next kind this : ℕ) (row : List ℕ) (long : length row ≡ 19) where
   -- as many values as the kind has variables, where they are no more than 16
   count-is : length (variablesOf p kind) ≤ 16 → length (take (length (variablesOf p kind)) row) ≡ length (variablesOf p kind)
   count-is h = length-take-le (length (variablesOf p kind)) row (omega arith)
 
-  -- the first 16 places, where zeros stand behind the variables
-  front-is : length (variablesOf p kind) ≤ 16 → Zeros (length (variablesOf p kind)) (16 - length (variablesOf p kind)) row
-      → take 16 row ≡ pad 0 16 (take (length (variablesOf p kind)) row)
-  front-is h z = pad-ext 0 16 (take 16 row) (take (length (variablesOf p kind)) row) (length-take-le 16 row (omega arith)) (omega (arith, count-is h))
-      (λ i b. getD-take 16 row i 0 b ∙ ⊎-elim
-      (λ (c : i < length (variablesOf p kind)). sym (getD-take (length (variablesOf p kind)) row i 0 c))
-      (λ (c : length (variablesOf p kind) ≤ i).
-      let e : length (variablesOf p kind) + (i - length (variablesOf p kind)) ≡ i = omega arith in
-      (rw e at (z (i - length (variablesOf p kind)) (omega arith)))
-      ∙ sym (List·getD-eq-default (take (length (variablesOf p kind)) row) 0 {n = i} (omega (arith, count-is h))))
-      (below? i (length (variablesOf p kind))))
-
   -- the last three
   back-is : drop 16 row ≡ getD row 16 0 ∷ getD row 17 0 ∷ getD row 18 0 ∷ []
   back-is = three (drop 16 row) (simp length-drop (omega arith)) ∙ rw (getD-drop 16 row 0 0, getD-drop 16 row 1 0, getD-drop 16 row 2 0)
 
   -- FROM THE NUMBERS TO THE VALUES
-  pub values-held : length (variablesOf p kind) ≤ 16 → Fits p next (variablesOf p kind) row → Zeros (length (variablesOf p kind)) (16 - length (variablesOf p kind)) row
+  pub values-held : length (variablesOf p kind) ≤ 16 → Fits p next (variablesOf p kind) row → pad 0 16 (take (length (variablesOf p kind)) row) ≡ take 16 row
       → OwnHeld p next this row → ValuesHeld p next kind this row
   values-held h f z o = record {
     variables = fits-typed p next (variablesOf p kind) row f;
     msg = o .msg-number .value;
     arg = o .arg-number .value;
-    written = rw (fits-written p next (variablesOf p kind) row f, ← front-is h z, ← o .own, o .msg-number .written, o .arg-number .written, ← back-is) (take-append-drop 16 row);
+    written = rw (fits-written p next (variablesOf p kind) row f, z, ← o .own, o .msg-number .written, o .arg-number .written, ← back-is) (take-append-drop 16 row);
   }
 
   -- AND BACK
@@ -117,7 +100,7 @@ module _ (p : Program) (next kind this : ℕ) (row : List ℕ) (long : length ro
 
     -- so they are no more than 16
     codes-few : length codes ≤ 16
-    codes-few = pad-few 16 codes front-long
+    codes-few = pad-fits 0 16 codes front-long
 
     -- as many as are read
     codes-long : length codes ≡ length (take (length (variablesOf p kind)) row)
@@ -146,10 +129,8 @@ module _ (p : Program) (next kind this : ℕ) (row : List ℕ) (long : length ro
     held-fits = typed-fits p next (variablesOf p kind) row (v .variables) codes-are
 
     -- zeros behind them
-    pub held-zeros : Zeros (length (variablesOf p kind)) (16 - length (variablesOf p kind)) row
-    held-zeros j h =
-        place-is (length (variablesOf p kind) + j) ∙ List·getD-append (pad 0 16 codes) rest 0 (length (variablesOf p kind) + j) (omega (arith, front-long))
-        ∙ pad-get 0 16 codes (length (variablesOf p kind) + j) ∙ List·getD-eq-default codes 0 {n = length (variablesOf p kind) + j} (omega (arith, codes-long, count-is held-few))
+    pub held-packed : pad 0 16 (take (length (variablesOf p kind)) row) ≡ take 16 row
+    held-packed = ap (pad 0 16) (sym codes-are) ∙ sym (take-at (pad 0 16 codes) rest 16 front-long) ∙ ap (take 16) (v .written)
 
     -- the machine's own three
     pub held-own : OwnHeld p next this row

@@ -2,7 +2,6 @@
 // stands in specs/Variables.antt.
 use checked_values::typed_ok;
 use checked_values::value_ok;
-use checked_values::zero_u64;
 use codes::code;
 use tables::Program;
 use tables::event_count;
@@ -12,6 +11,7 @@ use tables::variable_type;
 use values::Live;
 use values::Ty;
 use values::Value;
+use zeros::zero_u64;
 ghost use mathlib.Core.Path.{_≡_};
 ghost use mathlib.Core.List.{List};
 ghost use Prim.Native.Nat.{ℕ, _+_, _*_, _≤_, _<_};
@@ -118,7 +118,7 @@ pub fn values_ok<'a>(
     if !variables_ok(kinds, types, values, b, kind, n, next) {
         return false;
     }
-    if !zero_u64(values, b + m, Program::VARIABLES - m) {
+    if !zero_u64(values, b + m, b + Program::VARIABLES) {
         return false;
     }
     own_ok(values, b, this, n, next)

@@ -59,6 +59,26 @@ flat ids kinds depths states maps values counts parts held waiting pairs next = 
   next = next;
 }
 
+-- the lists with another next number
+abbrev pub withNext : Flat → ℕ → Flat
+withNext f n = flat (f .ids) (f .kinds) (f .depths) (f .states) (f .maps) (f .values) (f .counts) (f .parts) (f .held) (f .waiting) (f .pairs) n
+
+-- have the same sizes
+pub sized-next : (f : Flat) (n : ℕ) → Sized f → Sized (withNext f n)
+sized-next f n s = record {
+  ids-32 = s .ids-32;
+  kinds-32 = s .kinds-32;
+  depths-32 = s .depths-32;
+  states-256 = s .states-256;
+  maps-16384 = s .maps-16384;
+  values-608 = s .values-608;
+  counts-32 = s .counts-32;
+  parts-1056 = s .parts-1056;
+  held-32 = s .held-32;
+  waiting-32 = s .waiting-32;
+  pairs-512 = s .pairs-512;
+}
+
 -- room i
 abbrev pub roomAt : Flat → ℕ → Room
 roomAt f i = record {

@@ -1,10 +1,12 @@
 -- What is written of an accepted configuration of a sound program is read back; and so a configuration whose unused places are zero is known by what it reads
 -- as.
-use Prim.Native.Nat.{ℕ, suc, _+_, _*_, _≤_, _<_}
+use Prim.Native.Nat.{ℕ, _+_, _*_, _≤_, _<_}
 use mathlib.Core.Path.{_≡_, refl, ap, sym, _∙_}
 use mathlib.Core.Option.{Option, none, some}
 use mathlib.Core.Bool.{Bool, cond}
+use mathlib.Core.Logic.{dite}
 use mathlib.Core.List.{List, [], _∷_, map, reverse}
+use native.Mathlib.Decide.{ℕ-discrete}
 use native.Mathlib.Omega.{arith}
 use lib.ListN.{length, take, getD, length-reverse, length-map, List·getD-map}
 use lib.Seq.{take-append-le, getD-append-add}
@@ -17,10 +19,11 @@ use Rattle.values.specs.declared.Value.{Value}
 use Rattle.values.specs.declared.Value.the-variants.{Undefined as undefined, Bool as vbool, Int as vint, Event as vevent, Id as vid}
 use Rattle.values.specs.Values.{idOf}
 use Rattle.programs.specs.Sizes.{EVENTS, VARIABLES, STACK, QUEUE, ROW, SPENT, ACTIONS}
-use Rattle.programs.specs.Program.{Program, Variable, variablesOf}
+use Rattle.programs.specs.Program.{Program, variablesOf}
 use Rattle.soundness.specs.Sound.{Sound}
 use Rattle.machines.specs.Config.{Reply, action, deferred, nothing, Frame, Pending, idle, raising, returning, Pair, Machine, Config}
-use Rattle.acceptance.specs.Accepted.{ValueOk, TypedAll, PairOk, PendingOk, ReplyOk, FrameOk, MachineOk, RoomOk, Accepted}
+use Rattle.acceptance.specs.Accepted.{ValueOk, PairOk, PendingOk, ReplyOk, FrameOk, MachineOk, RoomOk, Accepted}
+use Rattle.acceptance.specs.Typed.{typed-length, typed-values}
 use Rattle.codes.specs.Codes.{codeOf, valueOf, Holdable}
 use Rattle.codes.specs.Laws.{value-code}
 use Rattle.codes.specs.Pairs.{pairCode, pair-event, pair-value}
@@ -31,8 +34,12 @@ use Rattle.lists.specs.Keep.{map-back, All-reverse, map-reverse}
 use Rattle.configs.specs.Reversed.{downTo-reverse, padded-part}
 
 -- a frame that stands in no stack: the default
-abbrev noFrame : Frame
+abbrev pub noFrame : Frame
 noFrame = record { state = 0; map = [] }
+
+-- an entry of a map is written as the number that it was read from
+pub code-back : (x : ℕ) → replyCode (replyOf x) ≡ x
+code-back x = dite (ℕ-discrete x 0) (λ z. rw z) (λ z. dite (ℕ-discrete x 255) (λ t. rw t) (λ t. rw (ne-eqb x 0 z, ne-eqb x 255 t)))
 
 module _ (p : Program) (sound : Sound p) where
   -- an entry of a map
@@ -113,13 +120,6 @@ module _ (p : Program) (next : ℕ) (sound : Sound p) (spent : next ≤ SPENT) w
       (λ i. raising (pair-event e v (holdable v (h .1 .0)) i) (pair-value e v (holdable v (h .1 .0)) i))
   pending-back returning h = refl
 
-  -- a value for each variable: as many, and each is read back
-  typed-back : (xs : List Variable) (vs : List Value) → TypedAll p next xs vs → (length xs ≡ length vs) × All (λ v. valueOf (codeOf v) ≡ v) vs
-  typed-back [] [] h = (refl, tt)
-  typed-back [] (v ∷ vs) h = absurd h
-  typed-back (x ∷ xs) [] h = absurd h
-  typed-back (x ∷ xs) (v ∷ vs) h = let t = typed-back xs vs (h .1) in (ap suc (t .0), (value-back v (h .0 .0), t .1))
-
   -- a machine
   module _ (m : Machine) (ok : MachineOk p next m) where
     -- no more than 16 variables
@@ -129,16 +129,16 @@ module _ (p : Program) (next : ℕ) (sound : Sound p) (spent : next ≤ SPENT) w
     -- its variables take 16 places
     width : length (pad 0 VARIABLES (map codeOf (m .loc .variables))) ≡ VARIABLES
     width = pad-length 0 VARIABLES (map codeOf (m .loc .variables))
-        (omega (arith, few, length-map (m .loc .variables) codeOf, typed-back (variablesOf p (m .loc .kind)) (m .loc .variables) (ok .loc-ok .vars) .0))
+        (omega (arith, few, length-map (m .loc .variables) codeOf, typed-length p next (variablesOf p (m .loc .kind)) (m .loc .variables) (ok .loc-ok .vars)))
 
     -- its variables
     variables-back : map valueOf (take (length (variablesOf p (m .loc .kind))) (taken m .values)) ≡ m .loc .variables
     variables-back =
-        let t = typed-back (variablesOf p (m .loc .kind)) (m .loc .variables) (ok .loc-ok .vars) in
-        let n : length (variablesOf p (m .loc .kind)) ≡ length (map codeOf (m .loc .variables)) = omega (arith, length-map (m .loc .variables) codeOf, t .0) in
+        let t = typed-length p next (variablesOf p (m .loc .kind)) (m .loc .variables) (ok .loc-ok .vars) in
+        let n : length (variablesOf p (m .loc .kind)) ≡ length (map codeOf (m .loc .variables)) = omega (arith, length-map (m .loc .variables) codeOf, t) in
         ap (map valueOf) (take-append-le (length (variablesOf p (m .loc .kind))) (pad 0 VARIABLES (map codeOf (m .loc .variables))) _ (omega (arith, few, width))
         ∙ ap (λ (k : ℕ). take k (pad 0 VARIABLES (map codeOf (m .loc .variables)))) n ∙ pad-take 0 VARIABLES (map codeOf (m .loc .variables)))
-        ∙ map-back valueOf codeOf (m .loc .variables) (t .1)
+        ∙ map-back valueOf codeOf (m .loc .variables) (All-map _ _ (m .loc .variables) value-back (typed-values p next (variablesOf p (m .loc .kind)) (m .loc .variables) (ok .loc-ok .vars)))
 
     -- the place j behind the variables
     behind : (j : ℕ) → getD (taken m .values) (VARIABLES + j) 0 ≡ getD (codeOf (idOf (m .this)) ∷ codeOf (m .loc .msg) ∷ codeOf (m .loc .arg) ∷ []) j 0

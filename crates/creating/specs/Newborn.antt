@@ -7,9 +7,10 @@ use mathlib.Core.List.{List, [], _∷_, _++_, map, reverse}
 use native.Mathlib.Decide.{ℕ-discrete}
 use native.Mathlib.Nat.{add-zero}
 use native.Mathlib.Omega.{arith}
-use lib.ListN.{length, getD, set, replicate, length-append, length-map, length-set, length-replicate, getD-replicate, replicate-append-replicate, List·getD-map, List·getD-append}
+use lib.ListN.{length, getD, set, replicate, length-append, length-map, length-set, getD-replicate, replicate-append-replicate, List·getD-map, List·getD-append}
 use lib.Seq.{ext-getD, take-all, getD-set-same, getD-set-other, getD-append-add}
 use Rattle.rows.specs.Pad.{pad, pad-length, pad-get, below?}
+use Rattle.rows.specs.Runs.{zeros-pad}
 use Rattle.rows.specs.Part.{part, put, part-get, put-length, put-out, part-put, row-set}
 use Rattle.values.specs.declared.Ty.{Ty}
 use Rattle.values.specs.declared.Value.{Value}
@@ -44,13 +45,6 @@ pub record NewLaid (to i m n : ℕ) (own : List ℕ) (entry : ℕ) (stmts ids ki
   pub row : RowBecomes to counts parts (Said stmts) (λ p r. tidied false p (entry ∷ r)) counts' parts'
 
 -- ZEROS
--- zeros with zeros behind them
-pad-zeros : (n size : ℕ) → n ≤ size → pad {A = ℕ} 0 size (replicate n 0) ≡ replicate size 0
-unfolding pad
-pad-zeros n size h =
-    let e : n + (size - n) ≡ size = omega arith in
-    ap (λ (j : ℕ). replicate n 0 ++ replicate (size - j) 0) (length-replicate n 0) ∙ replicate-append-replicate n (size - n) 0 ∙ ap (λ (j : ℕ). replicate j 0) e
-
 -- a map of nothing
 zero-replies : (l : List Ty) → map replyCode (map (λ t. nothing) l) ≡ replicate (length l) 0
 zero-replies [] = refl
@@ -58,8 +52,8 @@ zero-replies (t ∷ l) = ap (λ (r : List ℕ). 0 ∷ r) (zero-replies l)
 
 -- as the maps of a stack of one frame
 zero-maps : (l : List Ty) → length l ≤ 64 → pad 0 512 (pad 0 64 (map replyCode (map (λ t. nothing) l)) ++ []) ≡ replicate 512 0
-zero-maps l h = ap (λ (r : List ℕ). pad 0 512 (pad 0 64 r ++ [])) (zero-replies l) ∙ ap (λ (r : List ℕ). pad 0 512 (r ++ [])) (pad-zeros (length l) 64 h)
-    ∙ ap (pad 0 512) (replicate-append-replicate 64 0 0) ∙ pad-zeros 64 512 (omega arith)
+zero-maps l h = ap (λ (r : List ℕ). pad 0 512 (pad 0 64 r ++ [])) (zero-replies l) ∙ ap (λ (r : List ℕ). pad 0 512 (r ++ [])) (zeros-pad 0 64 (length l) h)
+    ∙ ap (pad 0 512) (replicate-append-replicate 64 0 0) ∙ zeros-pad 0 512 64 (omega arith)
 
 -- THE VALUES with `this`
 -- behind `this` they are zero

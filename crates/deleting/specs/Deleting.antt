@@ -1,12 +1,10 @@
--- The loop that stores zeros in a part of a flat list; the flat lists with a room that became free; and that this is DELETE.
-use Prim.Native.Nat.{ℕ, _+_, _*_, _≤_, _<_}
+-- The flat lists with a room that became free; and that this is DELETE.
+use Prim.Native.Nat.{ℕ, _*_, _<_}
 use mathlib.Core.Path.{_≡_, refl, ap, sym, _∙_, subst}
 use mathlib.Core.Option.{Option, none}
 use mathlib.Core.List.{List}
-use native.Mathlib.Omega.{arith}
-use lib.ListN.{length, set, replicate, length-set, length-replicate, getD-replicate}
+use lib.ListN.{set, replicate, length-replicate}
 use Rattle.rows.specs.Part.{put}
-use Rattle.rows.specs.Fill.{filled, filled-none, filled-more, filled-all}
 use Rattle.programs.specs.Program.{Program}
 use Rattle.machines.specs.Config.{Machine, Config}
 use Rattle.rules.specs.declared.Rule.the-variants.{DELETE}
@@ -19,30 +17,6 @@ use Rattle.engine.specs.declared.Outcome.the-variants.{Took}
 use Rattle.engine.specs.Engine.{Performed}
 use Rattle.rooms.specs.Places.{gone-set}
 use Rattle.rooms.specs.Standing.{Lives, next-is, change-written}
-
--- THE LOOP THAT CLEARS: after e turns the list `to` is the one it began with, the first e places of its part at b zero
-pub record Clearing (to₀ : List ℕ) (b n : ℕ) (to : List ℕ) (e : ℕ) : Type 0 where
-  pub turns : e ≤ n
-  pub long : length to ≡ length to₀
-  pub stored : to ≡ filled b n (replicate n 0) to₀ e
-
-module _ (to₀ : List ℕ) (b n : ℕ) (w : b + n ≤ length to₀) where
-  -- before the first turn
-  pub clear-none : Clearing to₀ b n to₀ 0
-  clear-none = record { turns = omega arith; long = refl; stored = filled-none 0 b n (replicate n 0) to₀ w (length-replicate n 0) }
-
-  -- one turn
-  pub clear-more : (to : List ℕ) (e : ℕ) → e < n → Clearing to₀ b n to e → Clearing to₀ b n (set to (b + e) 0) (e + 1)
-  clear-more to e h c = record {
-    turns = omega arith;
-    long = length-set to (b + e) 0 ∙ c .long;
-    stored = ap (λ (l : List ℕ). set l (b + e) 0) (c .stored) ∙ ap (λ (x : ℕ). set (filled b n (replicate n 0) to₀ e) (b + e) x) (sym (getD-replicate n e 0 0 h))
-        ∙ filled-more 0 b n (replicate n 0) to₀ w (length-replicate n 0) e h;
-  }
-
-  -- after the last
-  pub clear-all : (to : List ℕ) (e : ℕ) → n ≤ e → Clearing to₀ b n to e → to ≡ put b (replicate n 0) to₀
-  clear-all to e h c = c .stored ∙ filled-all 0 b n (replicate n 0) to₀ w (length-replicate n 0) e h
 
 -- A ROOM THAT BECAME FREE
 -- a free room's rows have their widths

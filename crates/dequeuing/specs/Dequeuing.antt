@@ -9,6 +9,7 @@ use lib.ListN.{length, take, getD, set, length-map}
 use lib.Seq.{getD-set-same}
 use Rattle.lists.specs.Lists.{All, There}
 use Rattle.lists.specs.Facts.{All-map, All-at}
+use Rattle.lists.specs.Keep.{map-back, All-image}
 use Rattle.rows.specs.Pad.{pad, pad-length, pad-take, without}
 use Rattle.rows.specs.Part.{part, put-length, put-out}
 use Rattle.values.specs.declared.Value.the-variants.{Event as vevent}
@@ -78,16 +79,6 @@ pub record Good (p : Program) (x : ℕ) : Type 0 where
   pub canonical : CanonicalPair x
   pub there : There (length (p .events)) (pairEvent x)
   pub rest : x % 1099511627776 ≡ codeOf (pairValue x)
-
--- what holds of the image of every element holds of every element of the image
-all-image : {A B : Type 0} (P : B → Type 0) (f : A → B) (l : List A) → All (λ x. P (f x)) l → All P (map f l)
-all-image P f [] h = tt
-all-image P f (x ∷ l) h = (h .0, all-image P f l (h .1))
-
--- canonical numbers are their pairs' numbers
-numbers-back : (l : List ℕ) → All CanonicalPair l → map pairNumber (map pairOf l) ≡ l
-numbers-back [] h = refl
-numbers-back (x ∷ l) h = rw (h .0, numbers-back l (h .1))
 
 module _ (says stmts kinds exits flags : List ℕ) (k : ℕ) (depths states maps values counts parts held waiting pairs : List ℕ)
     (a : DequeueAsked says stmts kinds exits flags k depths states maps values counts parts held waiting pairs) where
@@ -165,7 +156,7 @@ module _ (says stmts kinds exits flags : List ℕ) (k : ℕ) (depths states maps
       }
 
   all-good : All (Good (a .program)) (queueAt pairs waiting k)
-  all-good = rw numbers (all-image (Good (a .program)) pairNumber (a .machine .queue) (All-map _ _ (a .machine .queue) good-number (a .bare .stands .ok .queue-ok .pairs)))
+  all-good = rw numbers (All-image (Good (a .program)) pairNumber (a .machine .queue) (All-map _ _ (a .machine .queue) good-number (a .bare .stands .ok .queue-ok .pairs)))
 
   -- number j is
   good-at : (j : ℕ) → j < getD waiting k 0 → Good (a .program) (getD pairs (k * 16 + j) 0)
@@ -241,7 +232,7 @@ module _ (says stmts kinds exits flags : List ℕ) (k : ℕ) (depths states maps
 
         -- its numbers are its pairs'
         left-back : map pairNumber (map pairOf left) ≡ left
-        left-back = numbers-back left (remove-canonical r (queueAt pairs waiting k) (All-map _ _ (queueAt pairs waiting k) (λ y g. g .canonical) all-good))
+        left-back = map-back pairNumber pairOf left (remove-canonical r (queueAt pairs waiting k) (All-map _ _ (queueAt pairs waiting k) (λ y g. g .canonical) all-good))
 
         -- they stand in the room,
         pairs-are : part (k * 16) 16 pairs' ≡ pad 0 16 (map pairNumber (map pairOf left))

@@ -12,36 +12,21 @@ use lib.Dec.{eqb}
 use lib.ListN.{length, getD, set, take, length-set}
 use lib.Seq.{take-suc, getD-set-same, getD-set-other}
 use Rattle.lists.specs.Lists.{any}
-use Rattle.lists.specs.Facts.{not-not}
+use Rattle.lists.specs.Facts.{not-not, or-right, or-false, or-assoc}
 use Rattle.programs.specs.Program.{Program}
 use Rattle.soundness.specs.Asked.{again}
 
 -- TESTS OF ONE OR ANOTHER
--- nothing behind
-or-none : (b : Bool) → b || false ≡ b
-or-none true = refl
-or-none false = refl
-
--- one behind the other
-or-assoc : (a b c : Bool) → a || (b || c) ≡ (a || b) || c
-or-assoc true b c = refl
-or-assoc false b c = refl
-
 -- the first two in the other order
 or-swap : (a b c : Bool) → a || (b || c) ≡ b || (a || c)
 or-swap true true c = refl
 or-swap true false c = refl
 or-swap false b c = refl
 
--- where the second is known to hold
-or-so : (a b : Bool) → b ≡ true → a || b ≡ true
-or-so true b h = refl
-or-so false b h = h
-
 -- some element of two lists
 any-append : {A : Type 0} (f : A → Bool) (l m : List A) → any f (l ++ m) ≡ any f l || any f m
 any-append f [] m = refl
-any-append f (x ∷ l) m = rw (any-append f l m) (or-assoc (f x) (any f l) (any f m))
+any-append f (x ∷ l) m = rw (any-append f l m) (sym (or-assoc (f x) (any f l) (any f m)))
 
 -- THE MARKS
 -- the marks are those of the numbers named
@@ -58,8 +43,8 @@ module _ (seen named : List ℕ) (x : ℕ) (h : x < 65536) (s : Seen seen named)
   -- each mark, with it
   more : (y : ℕ) → y < 65536 → eqb (getD (set seen x 1) y 0) 0 ≡ not (any (eqb y) (named ++ x ∷ []))
   more y k = dite (ℕ-discrete y x)
-      (λ e. rw (e, getD-set-same seen x 1 0 (omega (arith, s .size)), any-append (eqb x) named (x ∷ []), eq-eqb x x refl, or-so (any (eqb x) named) true refl))
-      (λ e. rw (getD-set-other seen x y 1 0 e, any-append (eqb y) named (x ∷ []), ne-eqb y x e, or-none (any (eqb y) named)) (s .mark y k))
+      (λ e. rw (e, getD-set-same seen x 1 0 (omega (arith, s .size)), any-append (eqb x) named (x ∷ []), eq-eqb x x refl, or-right (any (eqb x) named) true refl))
+      (λ e. rw (getD-set-other seen x y 1 0 e, any-append (eqb y) named (x ∷ []), ne-eqb y x e, or-false (any (eqb y) named)) (s .mark y k))
 
   -- the marks with it
   pub seen-more : Seen (set seen x 1) (named ++ x ∷ [])
@@ -77,7 +62,7 @@ module _ (p : Program) where
   again-append e [] m = rw (append-nil e)
   again-append e (x ∷ l) m =
       ap (λ (b : Bool). (not (eqb x 0) && any (eqb x) e) || b) (again-append (x ∷ e) l m)
-      ∙ or-assoc (not (eqb x 0) && any (eqb x) e) (again p (x ∷ e) l) (again p (x ∷ e ++ l) m)
+      ∙ sym (or-assoc (not (eqb x 0) && any (eqb x) e) (again p (x ∷ e) l) (again p (x ∷ e ++ l) m))
       ∙ ap (λ (b : Bool). ((not (eqb x 0) && any (eqb x) e) || again p (x ∷ e) l) || b) (again-ext m (x ∷ e ++ l) (e ++ x ∷ l) (λ y. moved y))
     where
       moved : (y : ℕ) → any (eqb y) (x ∷ e ++ l) ≡ any (eqb y) (e ++ x ∷ l)
@@ -106,7 +91,7 @@ named-none seen = record { tells = λ p e s. refl; keeps = λ e s. rw (append-ni
 -- one
 pub named-one : (seen : List ℕ) (x : ℕ) {r : Bool} → x < 65536 → r ≡ not (eqb x 0) && not (eqb (getD seen x 0) 0) → Named seen (x ∷ []) r (set seen x 1)
 named-one seen x h q = record {
-  tells = λ p e s. q ∙ rw (s .mark x h, not-not (any (eqb x) e), or-none (not (eqb x 0) && any (eqb x) e));
+  tells = λ p e s. q ∙ rw (s .mark x h, not-not (any (eqb x) e), or-false (not (eqb x 0) && any (eqb x) e));
   keeps = λ e s. seen-more seen e x h s;
   marks = refl;
 }

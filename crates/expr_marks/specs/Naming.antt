@@ -11,6 +11,7 @@ use native.Mathlib.Omega.{arith}
 use borrow.Author.Tests.{ne-eqb}
 use lib.ListN.{length, getD, set, length-set}
 use Rattle.lists.specs.Lists.{at, any}
+use Rattle.lists.specs.Facts.{or-false}
 use Rattle.rows.specs.Part.{Off}
 use Rattle.rows.specs.Seek.{table}
 use Rattle.programs.specs.declared.Leaf.the-variants.{Bot as bot}
@@ -25,7 +26,7 @@ use Rattle.tables.specs.Tables.{exprs-length, stmts-length, stmt-head}
 use Rattle.marks.specs.Sheet.{Marking, says-at, Sheet, sheet-none, sheet-more, marking}
 use Rattle.marks.specs.Marks.{Served}
 use Rattle.marks.specs.Inner.{operandsIn, operands-past}
-use Rattle.marks.specs.Flow.{or-false, on, markLow, markAll, reach, left, left-marks, left-ext, left-none, flowed, flowed-keeps, flowed-on, flowed-off, all-keeps, same-length, same-off}
+use Rattle.marks.specs.Flow.{on, markLow, markAll, reach, left, left-marks, left-ext, left-none, flowed, flowed-keeps, flowed-on, flowed-off, all-keeps, same-length, same-off}
 use Rattle.marks.specs.Kinds.{or-front}
 
 -- `marks` has at k * 1025 + e a 1 where expression e serves kind k, and everywhere else 0

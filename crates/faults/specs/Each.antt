@@ -1,18 +1,17 @@
 -- A check of every element of a list, tested in a loop: it is passed where every place passes, and not where one does not.
 use Prim.Native.Nat.{ℕ, zero, suc, _+_, _<_}
 use mathlib.Core.Path.{_≡_, refl}
-use mathlib.Core.Logic.{dite}
 use mathlib.Core.Bool.{Bool, true, false, _&&_}
 use mathlib.Core.List.{List, [], _∷_}
-use native.Mathlib.Decide.{ℕ-discrete}
 use native.Mathlib.Omega.{arith}
+use borrow.Author.Count.{below-more}
 use lib.ListN.{length, getD}
+use Rattle.lists.specs.Facts.{and-false}
 use Rattle.lists.specs.Check.{Check, each}
 
 -- a test that fails beside another
 pub and-fails : (a b : Bool) → b ≡ false → a && b ≡ false
-and-fails true b h = h
-and-fails false b h = refl
+and-fails a b h = rw h (and-false a)
 
 -- a check that does not hold does not pass its test
 pub fails : (c : Check) → (c .Holds → ⊥) → c .test ≡ false
@@ -29,7 +28,7 @@ module _ {A : Type 0} (f : A → Check) (d : A) where
 
   -- with one place more
   pub passing-more : (l : List A) (i : ℕ) → Passing l i → f (getD l i d) .test ≡ true → Passing l (i + 1)
-  passing-more l i h t j b = dite (ℕ-discrete j i) (λ q. rw q t) (λ q. h j (omega arith))
+  passing-more l i h t = below-more (λ j. f (getD l j d) .test ≡ true) i h t
 
   -- every place passes
   pub each-passes : (l : List A) (i : ℕ) → i ≡ length l → Passing l i → each f l .test ≡ true

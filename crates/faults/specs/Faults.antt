@@ -135,6 +135,12 @@ module _ {A : Type 0} where
   pub at-place : (d : A) (l : List A) (i : ℕ) → at d l (i + 1) ≡ getD l i d
   at-place d l i = let e : i + 1 ≡ suc i = omega arith in ap (λ (n : ℕ). at d l n) e
 
+  -- the first i + 1 rows are the first i, and row i + 1 behind them
+  pub taken-more : (d : A) (l : List A) (i : ℕ) → i < length l → take (i + 1) l ≡ take i l ++ (at d l (i + 1) ∷ [])
+  taken-more d l i h =
+      let one : i + 1 ≡ suc i = omega arith in
+      ap (λ (j : ℕ). take j l) one ∙ take-suc l i d h ∙ ap (λ (x : A). take i l ++ (x ∷ [])) (sym (at-place d l i))
+
   -- a table of which nothing is asked
   pub fault-nothing : (k n : ℕ) (l : List A) → firstFault k (numbered nothing n l) ≡ 0
   fault-nothing k n [] = refl
@@ -164,7 +170,7 @@ module _ {A : Type 0} (f : ℕ → A → Check) (d : A) where
       (some-from (suc k) (suc n) l i (omega arith) (λ j q. let e : n + suc j ≡ suc n + j = omega arith in rw e at (h (suc j) (omega arith))) (rw s at t) ∙ y)
 
   -- and so where 1 stands in front
-  in-place : (l : List A) (i : ℕ) → at d l (1 + i) ≡ getD l i d
+  pub in-place : (l : List A) (i : ℕ) → at d l (1 + i) ≡ getD l i d
   in-place l i = let e : 1 + i ≡ suc i = omega arith in ap (λ (n : ℕ). at d l n) e
 
   -- the first i rows pass: what a loop over a table keeps
@@ -201,13 +207,12 @@ module _ {A : Type 0} (f : ℕ → A → Check) where
   -- with one row more
   pub rows-more : (d : A) (l : List A) (i : ℕ) → i < length l → rowFault f (take (i + 1) l) ≡ joined (rowFault f (take i l)) i (lineFault (f (i + 1) (at d l (i + 1))))
   rows-more d l i h =
-      let one : i + 1 ≡ suc i = omega arith in
       let n : length (take i l) ≡ i = length-take-le i l (omega arith) in
       let k : 1 + length (take i l) ≡ i + 1 = omega arith in
-      ap (λ (r : List A). rowFault f r) (ap (λ (j : ℕ). take j l) one ∙ take-suc l i d h)
-      ∙ ap (firstFault 1) (numbered-append 1 (take i l) (getD l i d ∷ []))
-      ∙ fault-append (numbered f 1 (take i l)) (f (1 + length (take i l)) (getD l i d) ∷ [])
-      ∙ rw (numbered-length f 1 (take i l), k, n, at-place d l i)
+      ap (λ (r : List A). rowFault f r) (taken-more d l i h)
+      ∙ ap (firstFault 1) (numbered-append 1 (take i l) (at d l (i + 1) ∷ []))
+      ∙ fault-append (numbered f 1 (take i l)) (f (1 + length (take i l)) (at d l (i + 1)) ∷ [])
+      ∙ rw (numbered-length f 1 (take i l), k, n)
 
   -- all rows
   pub rows-all : (l : List A) (i : ℕ) → i ≡ length l → rowFault f (take i l) ≡ rowFault f l
@@ -251,6 +256,11 @@ module _ (p : Program) (t : Asked) where
   unfoldable pub tablesFault : ℕ
   tablesFault = joined (rowFault (t .variable) (p .variables)) (length (p .variables)) (joined (rowFault (t .expr) (p .exprs)) (length (p .exprs))
       (joined (rowFault (t .stmt) (p .stmts)) (length (p .stmts)) statesFault))
+
+  -- moves and a `start` of which nothing is at fault
+  pub moves-free : rowFault (t .step) (p .steps) ≡ 0 → rowFault (t .call) (p .calls) ≡ 0 → rowFault (t .act) (p .acts) ≡ 0 → lineFault (t .start (p .start)) ≡ 0 → movesFault ≡ 0
+  unfolding movesFault
+  moves-free hs hc ha hb = rw (hs, hc, ha, hb) (simp (joined-none, onward-none))
 
   -- of the program: what has the events and the machines before it
   pub lines-fault : firstFault 1 (lines p t) ≡ onward (length (p .events) + p .machines) tablesFault

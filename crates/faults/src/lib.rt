@@ -1,8 +1,9 @@
 // The first faulty line of a program, from the first faulty row of each of its tables: what the passes that decide soundness share. What is meant by a
 // fault, and the laws, stand in specs/Faults.antt; the program that lent arrays read as in specs/Read.antt.
 ghost use mathlib.Core.Path.{_≡_};
-ghost use Prim.Native.Nat.{_+_, _-_, _≤_, min};
-ghost use Rattle.tables.specs.Decode.{MOVES};
+ghost use Prim.Native.Nat.{_+_, _-_, _*_, _≤_, min};
+ghost use Rattle.programs.specs.Sizes.{KINDS, EVENTS, VARIABLES};
+ghost use Rattle.tables.specs.Decode.{MOVES, count};
 ghost use Rattle.faults.specs.Faults.{onward, joined};
 ghost use Rattle.faults.specs.Read.{Counting};
 use tables::Program;
@@ -45,6 +46,17 @@ pub fn count_rows<'a>(
         actions: action_count(actors),
         states: state_count(states),
     }
+}
+
+// How many lines stand in front of the expressions: events, kinds and variables.
+pub fn front(
+    event_types: &[u8; Program::EVENTS + 1],
+    kinds: u8,
+    variable_of: &[u16; Program::ALL_VARIABLES + 1],
+) -> usize
+    ensures { λ r. ⌜ (r ≡ count EVENTS (now («event_types» .entry)) + kinds + count (KINDS * VARIABLES) (now («variable_of» .entry))) × (r ≤ 1000) ⌝ }
+{
+    event_count(event_types) + kinds as usize + variable_count(variable_of)
 }
 
 // How many rows there are of n from row a on, from 0: no more than a table of the size given has.

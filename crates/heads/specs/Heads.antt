@@ -17,7 +17,7 @@ use Rattle.tables.specs.Decode.{headAt, stmtOf, pairsOf}
 use Rattle.tables.specs.Tables.{stmt-head}
 use Rattle.configs.specs.declared.Room.{Room}
 use Rattle.configs.specs.Encode.{free}
-use Rattle.configs.specs.Flat.{Flat, Sized, flat}
+use Rattle.configs.specs.Flat.{Flat, Sized, flat, sized-next}
 use Rattle.engine.specs.declared.Outcome.{Outcome}
 use Rattle.engine.specs.declared.Outcome.the-variants.{Took}
 use Rattle.engine.specs.Engine.{Performed}
@@ -64,19 +64,7 @@ left-own (While e x) a r g q d = d
 -- what is asked of the lists, and what a room's clearing leaves, does not depend on the next live number
 pub sized-any : {ids kinds depths states maps values counts parts held waiting pairs : List ℕ} (i j : ℕ) → Sized (flat ids kinds depths states maps values counts parts held waiting pairs i)
     → Sized (flat ids kinds depths states maps values counts parts held waiting pairs j)
-sized-any i j s = record {
-  ids-32 = s .ids-32;
-  kinds-32 = s .kinds-32;
-  depths-32 = s .depths-32;
-  states-256 = s .states-256;
-  maps-16384 = s .maps-16384;
-  values-608 = s .values-608;
-  counts-32 = s .counts-32;
-  parts-1056 = s .parts-1056;
-  held-32 = s .held-32;
-  waiting-32 = s .waiting-32;
-  pairs-512 = s .pairs-512;
-}
+sized-any i j s = sized-next _ j s
 
 pub placed-any : {ids kinds depths states maps values counts parts held waiting pairs ids' kinds' depths' states' maps' values' counts' parts' held' waiting' pairs' : List ℕ} (k i j : ℕ) (o : Room)
     → Placed (flat ids kinds depths states maps values counts parts held waiting pairs i) k o (flat ids' kinds' depths' states' maps' values' counts' parts' held' waiting' pairs' i)

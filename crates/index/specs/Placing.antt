@@ -2,7 +2,7 @@
 use Prim.Native.Nat.{ℕ, zero, suc, _+_, _-_, _≤_, _<_}
 use mathlib.Core.Path.{_≡_, refl, ap, sym, _∙_}
 use mathlib.Core.Bool.{Bool, true, false, cond}
-use mathlib.Core.List.{List, [], _∷_, _++_}
+use mathlib.Core.List.{List}
 use mathlib.Core.Logic.{dite}
 use native.Mathlib.Numerals.{add-one}
 use native.Mathlib.Omega.{arith}
@@ -11,11 +11,13 @@ use borrow.Author.Tests.{eq-eqb, ne-eqb}
 use lib.Dec.{eqb}
 use lib.ListN.{length, getD, set, take, length-set}
 use lib.Seq.{take-suc, getD-set-same, getD-set-other}
-use Rattle.lists.specs.Lists.{keep, push, at, There}
-use Rattle.rows.specs.Seek.{table-length, table-get}
+use Rattle.lists.specs.Lists.{keep, at, There}
+use Rattle.lists.specs.Keep.{keep-snoc}
+use Rattle.rows.specs.Seek.{table-get}
 use Rattle.programs.specs.Program.{Variable, isOf}
 use Rattle.tables.specs.Decode.{byte, count, noVariable, variableIn, variablesOf}
 use Rattle.tables.specs.Numbered.{at-row}
+use Rattle.tables.specs.Tables.{variables-length}
 use Rattle.index.specs.Index.{placeIn, Placed}
 
 -- how many of the first i variables are of kind k
@@ -38,23 +40,6 @@ pub before-le : (kinds : List ℕ) (k i : ℕ) → before kinds k i ≤ i
 unfolding before
 before-le kinds k zero = omega arith
 before-le kinds k (suc i) = omega (arith, before-le kinds k i, cond-le (eqb (byte (getD kinds (suc i) 0)) k))
-
-module _ {A : Type 0} where
-  -- one in front, or not
-  push-length : (b : Bool) (x : A) (l : List A) → length (push b x l) ≡ cond b 1 0 + length l
-  push-length true x l = omega arith
-  push-length false x l = omega arith
-
-  -- one at the end, or not
-  keep-snoc : (f : A → Bool) (l : List A) (x : A) → length (keep f (l ++ (x ∷ []))) ≡ length (keep f l) + cond (f x) 1 0
-  keep-snoc f [] x = push-length (f x) x [] ∙ omega arith
-  keep-snoc f (y ∷ l) x =
-      omega (arith, push-length (f y) y (keep f (l ++ (x ∷ []))), push-length (f y) y (keep f l), keep-snoc f l x)
-
--- as many variables as the count says
-variables-length : (kinds types : List ℕ) → length (variablesOf kinds types) ≡ count 256 kinds
-unfolding variablesOf
-variables-length kinds types = table-length (variableIn kinds types) 1 (count 256 kinds)
 
 -- variable i + 1 stands in place i
 variables-get : (kinds types : List ℕ) (i : ℕ) → i < count 256 kinds → getD (variablesOf kinds types) i noVariable ≡ variableIn kinds types (suc i)

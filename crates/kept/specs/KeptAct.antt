@@ -26,13 +26,13 @@ use Rattle.programs.specs.declared.Leaf.the-variants.{Msg as msg, Arg as arg}
 use Rattle.machines.specs.Config.{Reply, action, deferred, nothing, Frame, Pending, idle, raising, returning, Local}
 use Rattle.machines.specs.Eval.{value, eval}
 use Rattle.machines.specs.Locals.{remains, movesOn, sets, told, stacked, created, blank}
-use Rattle.machines.specs.Maps.{isAction, entryAt, Pop, exitOrSkip, inherits, inheritsFrom, callMap}
+use Rattle.machines.specs.Maps.{isAction, entryAt, Pop, exitOrSkip, inherits, inheritsFrom, callMap, inherits-length}
 use Rattle.rules.specs.Act.{Act, alone, creates, deletes, sends, dequeues, refuses, onBool, onTarget, fits, inits, does, stepping, calling, acting, popping, pends, inState, onStack, act}
 use Rattle.rules.specs.declared.Rule.the-variants.{ASSERT, IF, WHILE, CALL}
 use Rattle.rules.specs.Match.{fit-some}
 use Rattle.soundness.specs.Founded.{VariableOf, Refers, Founded}
 use Rattle.acceptance.specs.Accepted.{ValueOk, Typed, TypedAll, PairOk, PendingOk, ReplyOk, FrameOk, PartOk, counted, Heights, LocalOk}
-use Rattle.kept.specs.KeptRow.{height-part, height-low, height-0, inside-self, part-part, tidy-ok}
+use Rattle.kept.specs.KeptRow.{height-part, height-low, height-0, inside-self, part-refers, part-part, tidy-ok}
 use Rattle.kept.specs.KeptValue.{typed-more, blank-typed, sets-typed, value-ok, local-more}
 
 -- a move of a table, and what holds of it
@@ -121,10 +121,6 @@ module _ (p : Program) (founded : Founded p) where
     replies-ok : (n e : ℕ) (α : List Reply) → stateAt p n .of ≡ k → All (ReplyOk p k) α → All (ReplyOk p k) (inheritsFrom p n e α)
     replies-ok n e [] h o = tt
     replies-ok n e (x ∷ α) h o = (reply-ok n e x h (o .0), replies-ok n (suc e) α h (o .1))
-
-    length-inherits : (n e : ℕ) (α : List Reply) → length (inheritsFrom p n e α) ≡ length α
-    length-inherits n e [] = refl
-    length-inherits n e (x ∷ α) = ap suc (length-inherits n (suc e) α)
 
     nothings : (l : List Ty) → All (ReplyOk p k) (map (λ t. nothing) l)
     nothings [] = tt
@@ -308,11 +304,7 @@ module _ (p : Program) (founded : Founded p) where
         heights = subst (Heights p (counted (l .pending))) head (h .row-ok .heights)
 
         refers : (t : Stmt) → stmtAt p s ≡ t → Refers p (l .kind) t
-        refers t e = subst (Refers p (l .kind)) e (go (suited .0))
-          where
-            go : PartOk p (l .kind) s → Refers p (l .kind) (stmtAt p s)
-            go (inl z) = subst (λ s. Refers p (l .kind) (stmtAt p s)) (sym z) tt
-            go (inr o) = founded .refers (l .kind) s (o .1)
+        refers t e = subst (Refers p (l .kind)) e (part-refers p founded (l .kind) s (suited .0))
 
         -- S[skip]
         skip-row : Heights p (counted (l .pending)) (0 ∷ r)
@@ -376,7 +368,7 @@ module _ (p : Program) (founded : Founded p) where
               ActOk next (cond b (alone CALL (remains p (Entry p n ∷ []) idle (stacked (record { state = n; map = callMap p (f .state) (f .map) } ∷ f ∷ γ) l))) (refuses StackFull))
           room n o true b = alone-ok next (stacked (record { state = n; map = callMap p (f .state) (f .map) } ∷ f ∷ γ) l)
               (stacked-ok next l h _ (omega (arith, ltb-true (length (f ∷ γ)) STACK (ap (λ st. ltb (length st) STACK) (sym top) ∙ b)))
-              (record { there = o .0; suited = o .1; each-event = length-inherits (l .kind) (f .state) 1 (f .map) ∙ frame .0 .each-event; replies = replies-ok (l .kind) (f .state) 1 (f .map) (frame .0 .suited) (frame .0 .replies) }, frame))
+              (record { there = o .0; suited = o .1; each-event = inherits-length p (f .state) 1 (f .map) ∙ frame .0 .each-event; replies = replies-ok (l .kind) (f .state) 1 (f .map) (frame .0 .suited) (frame .0 .replies) }, frame))
               (Entry p n) idle (entry-ok (l .kind) n (o .0) (o .1)) tt
           room n o false b = tt
 

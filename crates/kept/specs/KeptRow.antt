@@ -17,7 +17,7 @@ use Rattle.programs.specs.Program.{Program, State, Stmt, skip, assign, new, del
 use Rattle.programs.specs.Statements.{isSkip, isSeq, parts, height, inside, byAction, byState, serves}
 use Rattle.machines.specs.Config.{Pending, idle, raising, returning}
 use Rattle.machines.specs.Row.{onto, splits, lone, tidy}
-use Rattle.soundness.specs.Founded.{Founded}
+use Rattle.soundness.specs.Founded.{Founded, Refers}
 use Rattle.acceptance.specs.Accepted.{PartOk, NoSeq, counted, Heights, RowOk}
 
 pub seq-parts : (t : Stmt) (a b : ℕ) → isSeq t ≡ some (a, b) → has a (parts t) × has b (parts t)
@@ -93,6 +93,11 @@ module _ (p : Program) (founded : Founded p) where
             and-both (eqb (x .of) k) (inside p t (x .body)) (d .0) (inside-part (x .body) (d .1))) a)
         go (inr b) = or-right (any (byAction p k t) (p .actions)) (any (byState p k t) (p .states)) (any-mono (byState p k s) (byState p k t) (p .states) (λ x f. let d = and-parts (eqb (x .of) k) (inside p s (x .entry) || inside p s (x .exit)) f in
             and-both (eqb (x .of) k) (inside p t (x .entry) || inside p t (x .exit)) (d .0) (either x (or-cases (inside p s (x .entry)) (inside p s (x .exit)) (d .1)))) b)
+
+  -- what a part of a row names is there, and of the kind
+  pub part-refers : (k s : ℕ) → PartOk p k s → Refers p k (stmtAt p s)
+  part-refers k s (inl z) = rw z tt
+  part-refers k s (inr o) = founded .refers k s (o .1)
 
   -- a part of a part of a row may stand in the row
   pub part-part : (k s t : ℕ) → has t (parts (stmtAt p s)) → PartOk p k s → PartOk p k t

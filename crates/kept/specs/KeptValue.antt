@@ -7,7 +7,7 @@ use native.Mathlib.Omega.{arith}
 use borrow.Author.Tests.{eq-eqb}
 use lib.IntN.{ℤ, negℤ, _+ℤ_, _-ℤ_}
 use lib.ListN.{length, getD, set, take}
-use Rattle.lists.specs.Lists.{keep, push, All}
+use Rattle.lists.specs.Lists.{keep, push}
 use Rattle.lists.specs.Facts.{All-map, All-getD}
 use Rattle.values.specs.declared.Value.{Value}
 use Rattle.values.specs.declared.Value.the-variants.{Undefined as undefined, Bool as vbool, Int as vint, Event as vevent, Id as vid}
@@ -24,6 +24,7 @@ use Rattle.machines.specs.Config.{Pending, idle, raising, returning, Pair, Loca
 use Rattle.machines.specs.Eval.{storeOf, value}
 use Rattle.soundness.specs.Founded.{VariableOf}
 use Rattle.acceptance.specs.Accepted.{ValueOk, Typed, TypedAll, PairOk, PendingOk, LocalOk, MachineOk}
+use Rattle.acceptance.specs.Typed.{typed-values}
 
 module _ (p : Program) (next : ℕ) where
   -- OPERATORS
@@ -59,12 +60,6 @@ module _ (p : Program) (next : ℕ) where
   apply2-ok or x y = bool-ok x _ (λ a. bool-ok y _ (λ b. tt))
 
   -- VARIABLES
-  typed-values : (xs : List Variable) (vs : List Value) → TypedAll p next xs vs → All (ValueOk p next) vs
-  typed-values [] [] h = tt
-  typed-values [] (v ∷ vs) h = absurd h
-  typed-values (x ∷ xs) [] h = absurd h
-  typed-values (x ∷ xs) (v ∷ vs) h = (h .0 .0, typed-values xs vs (h .1))
-
   pub blank-typed : (xs : List Variable) → TypedAll p next xs (map (λ v. undefined) xs)
   blank-typed [] = tt
   blank-typed (x ∷ xs) = ((tt, refl), blank-typed xs)
@@ -99,7 +94,7 @@ module _ (p : Program) (next : ℕ) where
     unfolding value
     leaf-ok k (intVal z) = checked-ok z
     leaf-ok k (boolVal b) = tt
-    leaf-ok k (var x) = All-getD (ValueOk p next) undefined (l .variables) (place p (l .kind) x) tt (typed-values (variablesOf p (l .kind)) (l .variables) (h .vars))
+    leaf-ok k (var x) = All-getD (ValueOk p next) undefined (l .variables) (place p (l .kind) x) tt (typed-values p next (variablesOf p (l .kind)) (l .variables) (h .vars))
     leaf-ok k this = (low, high)
     leaf-ok k msg = h .msg-ok .0
     leaf-ok k arg = h .arg-ok

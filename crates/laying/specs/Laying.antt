@@ -11,7 +11,7 @@ use Rattle.rows.specs.Seek.{table, table-length, table-at}
 use Rattle.rows.specs.Part.{part, put, put-length, part-put, row-other}
 use Rattle.configs.specs.declared.Room.{Room}
 use Rattle.configs.specs.declared.Config.{Config as Held}
-use Rattle.configs.specs.Flat.{Flat, Sized, flat, roomAt, held, room-path}
+use Rattle.configs.specs.Flat.{Flat, Sized, flat, roomAt, held, room-path, withNext, sized-next}
 
 -- row i of width w of the list `to` is `from`, in the list to′
 pub record Stored (to : List ℕ) (i w : ℕ) (from to′ : List ℕ) : Type 0 where
@@ -146,26 +146,6 @@ laid-more rooms k f g h l q = record {
 pub record Holds (c : Held) (f : Flat) : Type 0 where
   pub sized : Sized f
   pub is : held f ≡ c
-
--- the lists with another next number
-abbrev withNext : Flat → ℕ → Flat
-withNext f n = flat (f .ids) (f .kinds) (f .depths) (f .states) (f .maps) (f .values) (f .counts) (f .parts) (f .held) (f .waiting) (f .pairs) n
-
--- have the same sizes
-sized-next : (f : Flat) (n : ℕ) → Sized f → Sized (withNext f n)
-sized-next f n s = record {
-  ids-32 = s .ids-32;
-  kinds-32 = s .kinds-32;
-  depths-32 = s .depths-32;
-  states-256 = s .states-256;
-  maps-16384 = s .maps-16384;
-  values-608 = s .values-608;
-  counts-32 = s .counts-32;
-  parts-1056 = s .parts-1056;
-  held-32 = s .held-32;
-  waiting-32 = s .waiting-32;
-  pairs-512 = s .pairs-512;
-}
 
 -- when all rooms are laid, the lists are those of the configuration
 pub laid-all : (c : Held) (f : Flat) → length (c .rooms) ≡ 32 → Laid (c .rooms) 32 f → Holds c (withNext f (c .next))

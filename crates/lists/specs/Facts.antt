@@ -32,6 +32,16 @@ pub or-right : (a b : Bool) → b ≡ true → a || b ≡ true
 or-right true b h = refl
 or-right false b h = h
 
+-- or no
+pub or-false : (a : Bool) → a || false ≡ a
+or-false true = refl
+or-false false = refl
+
+-- one of three
+pub or-assoc : (a b c : Bool) → (a || b) || c ≡ a || (b || c)
+or-assoc true b c = refl
+or-assoc false b c = refl
+
 pub or-cases : (a b : Bool) → a || b ≡ true → (a ≡ true) ⊎ (b ≡ true)
 or-cases true b h = inl refl
 or-cases false b h = inr h
@@ -39,6 +49,16 @@ or-cases false b h = inr h
 pub or-none : (a b : Bool) → a || b ≡ false → (a ≡ false) × (b ≡ false)
 or-none true b h = absurd (true≢false h)
 or-none false b h = (refl, h)
+
+-- and no
+pub and-false : (a : Bool) → a && false ≡ false
+and-false true = refl
+and-false false = refl
+
+-- and yes
+pub and-true : (a b : Bool) → b ≡ true → a && b ≡ a
+and-true true b h = h
+and-true false b h = refl
 
 pub and-parts : (a b : Bool) → a && b ≡ true → (a ≡ true) × (b ≡ true)
 and-parts true b h = (refl, h)

@@ -1,8 +1,8 @@
 -- Laws of the elements that pass a test, of images, and of a fact of every element.
 use Prim.Native.Nat.{ℕ, zero, suc, _+_, _*_, _≤_}
 use mathlib.Core.Path.{_≡_, refl, sym, _∙_}
-use mathlib.Core.Bool.{Bool, true, false}
-use mathlib.Core.List.{List, [], _∷_, _++_, map, reverse, reverseAux, append-assoc, append-nil}
+use mathlib.Core.Bool.{Bool, true, false, cond}
+use mathlib.Core.List.{List, [], _∷_, _++_, map, reverse, reverseAux, append-assoc, append-nil, head-eq-of-cons-eq, tail-eq-of-cons-eq}
 use native.Mathlib.Nat.{suc-mul, zero-mul}
 use native.Mathlib.Omega.{arith}
 use lib.ListN.{length, set, length-append}
@@ -18,6 +18,17 @@ module _ {A : Type 0} where
   pub keep-append : (p : A → Bool) (l m : List A) → keep p (l ++ m) ≡ keep p l ++ keep p m
   keep-append p [] m = refl
   keep-append p (x ∷ l) m = rw (keep-append p l m, push-append)
+
+  -- one more in front, or not
+  pub push-length : (b : Bool) (x : A) (l : List A) → length (push b x l) ≡ cond b 1 0 + length l
+  push-length true x l = omega arith
+  push-length false x l = omega arith
+
+  -- one more at the end is kept, or not
+  pub keep-snoc : (p : A → Bool) (l : List A) (x : A) → length (keep p (l ++ (x ∷ []))) ≡ length (keep p l) + cond (p x) 1 0
+  keep-snoc p [] x = push-length (p x) x [] ∙ omega arith
+  keep-snoc p (y ∷ l) x =
+      omega (arith, push-length (p y) y (keep p (l ++ (x ∷ []))), push-length (p y) y (keep p l), keep-snoc p l x)
 
   -- a fact of every element, one pushed
   pub All-push : (P : A → Type 0) (b : Bool) (x : A) (l : List A) → P x → All P l → All P (push b x l)
@@ -73,6 +84,21 @@ module _ {A B : Type 0} where
   map-back f g [] h = refl
   map-back f g (x ∷ l) h = rw (h .0, map-back f g l (h .1))
 
+  -- and where the list is given back, each element is
+  pub back-map : (f : B → A) (g : A → B) (l : List A) → map f (map g l) ≡ l → All (λ x. f (g x) ≡ x) l
+  back-map f g [] e = tt
+  back-map f g (x ∷ l) e = (head-eq-of-cons-eq e, back-map f g l (tail-eq-of-cons-eq e))
+
+  -- a fact of every element's image is one of every element of the images,
+  pub All-image : (P : B → Type 0) (g : A → B) (l : List A) → All (λ x. P (g x)) l → All P (map g l)
+  All-image P g [] h = tt
+  All-image P g (x ∷ l) h = (h .0, All-image P g l (h .1))
+
+  -- and the other way round
+  pub image-All : (P : B → Type 0) (g : A → B) (l : List A) → All P (map g l) → All (λ x. P (g x)) l
+  image-All P g [] h = tt
+  image-All P g (x ∷ l) h = (h .0, image-All P g l (h .1))
+
   -- the images of a list in which one place is another
   pub map-set : (f : A → B) (l : List A) (k : ℕ) (x : A) → map f (set l k x) ≡ set (map f l) k (f x)
   map-set f [] k x = refl
@@ -108,15 +134,10 @@ module _ {A : Type 0} where
   pub All-reverse : (P : A → Type 0) (l : List A) → All P l → All P (reverse l)
   All-reverse P l h = All-reverseAux P l [] h tt
 
-  -- An element counts the same wherever it is pushed;
-  length-push : (b : Bool) (x : A) (l : List A) → length (push b x l) ≡ length (push b x []) + length l
-  length-push true x l = omega arith
-  length-push false x l = omega arith
-
-  -- so as many elements of two lists pass when the first is turned round before the second,
+  -- As many elements of two lists pass when the first is turned round before the second,
   kept-reverseAux : (p : A → Bool) (l m : List A) → length (keep p (reverseAux l m)) ≡ length (keep p l) + length (keep p m)
   kept-reverseAux p [] m = omega arith
-  kept-reverseAux p (x ∷ l) m = omega (arith, kept-reverseAux p l (x ∷ m), length-push (p x) x (keep p l), length-push (p x) x (keep p m))
+  kept-reverseAux p (x ∷ l) m = omega (arith, kept-reverseAux p l (x ∷ m), push-length (p x) x (keep p l), push-length (p x) x (keep p m))
 
   -- and as many of a list turned round.
   pub kept-reverse : (p : A → Bool) (l : List A) → length (keep p (reverse l)) ≡ length (keep p l)

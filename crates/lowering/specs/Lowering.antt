@@ -1,39 +1,28 @@
 -- What a turn over a row adds to the names of the rows before it, and the line of a fault.
-use Prim.Native.Nat.{ℕ, suc, _+_, _<_}
+use Prim.Native.Nat.{ℕ, _+_, _<_}
 use mathlib.Core.Path.{_≡_, refl, ap, sym, _∙_}
 use mathlib.Core.Bool.{Bool, true, false, not, _&&_, _||_}
-use mathlib.Core.List.{List, [], _∷_, _++_, append-assoc, append-nil, map}
-use native.Mathlib.Omega.{arith}
+use mathlib.Core.List.{List, [], _∷_, _++_, map}
 use lib.ListN.{length, take}
-use lib.Seq.{take-suc}
 use Rattle.lists.specs.Lists.{at, flat}
+use Rattle.lists.specs.Keep.{flat-snoc}
 use Rattle.lists.specs.Ends.{map-append}
 use Rattle.programs.specs.Program.{Program}
 use Rattle.soundness.specs.Asked.{lower}
 use Rattle.soundness.specs.Sound.{lines, firstFault}
 use Rattle.faults.specs.declared.Counts.{Counts}
-use Rattle.faults.specs.Faults.{onward, joined, joined-none, joined-last, onward-none, onward-onward, rowFault, fault-nothing, at-place, movesFault, statesFault, tablesFault, lines-fault}
+use Rattle.faults.specs.Faults.{onward, joined, joined-none, joined-last, onward-onward, rowFault, fault-nothing, taken-more, moves-free, statesFault, tablesFault, lines-fault}
 use Rattle.faults.specs.Read.{Counted}
 
 -- NAMES
 module _ {A : Type 0} (d : A) (l : List A) (i : ℕ) (h : i < length l) where
-  -- row i + 1 behind those before it
-  taken-more : take (i + 1) l ≡ take i l ++ at d l (i + 1) ∷ []
-  taken-more =
-      let one : i + 1 ≡ suc i = omega arith in
-      ap (λ (j : ℕ). take j l) one ∙ take-suc l i d h ∙ ap (λ (x : A). take i l ++ x ∷ []) (sym (at-place d l i))
-
   -- what it names behind what they name
   pub flat-more : (f : A → List ℕ) → flat f (take (i + 1) l) ≡ flat f (take i l) ++ f (at d l (i + 1))
-  flat-more f = ap (flat f) taken-more ∙ flat-append (take i l) (at d l (i + 1) ∷ []) ∙ ap (λ (r : List ℕ). flat f (take i l) ++ r) (append-nil (f (at d l (i + 1))))
-    where
-      flat-append : (a b : List A) → flat f (a ++ b) ≡ flat f a ++ flat f b
-      flat-append [] b = refl
-      flat-append (x ∷ a) b = rw (flat-append a b) (sym (append-assoc (f x) (flat f a) (flat f b)))
+  flat-more f = ap (flat f) (taken-more d l i h) ∙ flat-snoc f (take i l) (at d l (i + 1))
 
   -- where each names one
   pub map-more : (f : A → ℕ) → map f (take (i + 1) l) ≡ map f (take i l) ++ f (at d l (i + 1)) ∷ []
-  map-more f = ap (map f) taken-more ∙ map-append f (take i l) (at d l (i + 1) ∷ [])
+  map-more f = ap (map f) (taken-more d l i h) ∙ map-append f (take i l) (at d l (i + 1) ∷ [])
 
 -- neither of two
 pub not-either : (a b : Bool) → not (a || b) ≡ not a && not b
@@ -42,21 +31,6 @@ not-either false b = refl
 
 -- THE LINE of a fault: behind the variables, with nothing asked of the moves
 module _ (p : Program) {c : Counts} (n : Counted p c) where
-  -- nothing is asked of the moves
-  moves-free : movesFault p (lower p) ≡ 0
-  unfolding movesFault
-  moves-free =
-      rw (
-        fault-nothing 1 1 (p .steps),
-        fault-nothing 1 1 (p .calls),
-        fault-nothing 1 1 (p .acts),
-        joined-none (length (p .acts)) 0,
-        onward-none (length (p .acts)),
-        joined-none (length (p .calls)) 0,
-        onward-none (length (p .calls)),
-        joined-none (length (p .steps)) 0,
-      ) (onward-none (length (p .steps)))
-
   -- the line, by what the passes over the tables answer
   pub lower-line : {e s a q r : ℕ} → e ≡ rowFault (lower p .expr) (p .exprs) → s ≡ rowFault (lower p .stmt) (p .stmts) → a ≡ rowFault (lower p .action) (p .actions)
       → q ≡ rowFault (lower p .state) (p .states) → r ≡ onward (c .events + c .kinds + c .variables) (joined e (c .exprs) (joined s (c .stmts) (joined a (c .actions) q)))
@@ -65,5 +39,5 @@ module _ (p : Program) {c : Counts} (n : Counted p c) where
   lower-line he hs ha hq hr =
       hr ∙ rw (he, hs, ha, hq, ← n .exprs, ← n .stmts, ← n .actions, ← n .variables, ← n .events, ← n .machines)
       (sym (lines-fault p (lower p)
-      ∙ rw (fault-nothing 1 1 (p .variables), moves-free, joined-last (rowFault (lower p .state) (p .states)) (length (p .states)), joined-none (length (p .variables)) _)
+      ∙ rw (fault-nothing 1 1 (p .variables), moves-free p (lower p) (fault-nothing 1 1 (p .steps)) (fault-nothing 1 1 (p .calls)) (fault-nothing 1 1 (p .acts)) refl, joined-last (rowFault (lower p .state) (p .states)) (length (p .states)), joined-none (length (p .variables)) _)
       (onward-onward (length (p .events) + p .machines) (length (p .variables)) _)))

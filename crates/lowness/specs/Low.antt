@@ -6,7 +6,7 @@ use mathlib.Core.List.{List}
 use native.Mathlib.Omega.{arith}
 use borrow.Author.Tests.{le-leb, lt-leb}
 use lib.Dec.{leb}
-use lib.ListN.{length, getD}
+use lib.ListN.{getD}
 use Rattle.lists.specs.Lists.{at}
 use Rattle.programs.specs.declared.Leaf.the-variants.{Bot as bot}
 use Rattle.programs.specs.declared.Expr.the-variants.{Leaf as leaf}
@@ -15,11 +15,12 @@ use Rattle.programs.specs.Program.{Program, skip}
 use Rattle.programs.specs.Statements.{exprsOf as exprsIn}
 use Rattle.tables.specs.declared.Head.{Head}
 use Rattle.tables.specs.Decode.{count, headAt, stmtOf}
-use Rattle.tables.specs.Tables.{exprs-length, stmts-length, stmt-head}
+use Rattle.tables.specs.Tables.{stmt-head}
 use Rattle.soundness.specs.Asked.{low}
-use Rattle.soundness.specs.Sound.{lines, numbered, firstFault}
-use Rattle.fronts.specs.First.{firstBad, bad-ext, table-bad}
-use Rattle.fronts.specs.Asking.{Told, front-is, termLine, terms-fault}
+use Rattle.soundness.specs.Sound.{lines, firstFault}
+use Rattle.faults.specs.Faults.{onward, joined, rowFault}
+use Rattle.faults.specs.First.{firstBad, table-bad}
+use Rattle.faults.specs.Asking.{Told, told-exprs, told-stmts, front-is, terms-fault}
 use Rattle.marks.specs.Marks.{Heights}
 use Rattle.lowness.specs.Trees.{ExprHeights, ExprStars}
 use Rattle.lowness.specs.Stars.{stmtStars, stars-test}
@@ -34,19 +35,9 @@ lowStmt heights counts stmts inits s = leb (getD heights s 0) 32 && leb (stmtSta
 
 module _ (types : List ℕ) (kinds : ℕ) (variableOf exprs stmts inits heights tall counts : List ℕ) (p : Program) (told : Told types kinds variableOf exprs stmts inits p)
     (h : Heights p heights) (t : ExprHeights p tall) (c : ExprStars p counts) where
-  -- as many expressions as their table says
-  exprs-many : length (p .exprs) ≡ count EXPRS exprs
-  exprs-many = ap length (told .same-exprs) ∙ exprs-length exprs
-
-  -- and statements
-  stmts-many : length (p .stmts) ≡ count STMTS stmts
-  stmts-many = ap length (told .same-stmts) ∙ stmts-length stmts inits
-
   -- the first expression at fault
-  exprs-fault : firstFault 1 (numbered (low p .expr) 1 (p .exprs)) ≡ firstBad (lowExpr tall) 1 (count EXPRS exprs)
-  exprs-fault =
-      table-bad (low p .expr) (leaf bot) (p .exprs)
-      ∙ rw exprs-many (bad-ext (λ m. low p .expr m (at (leaf bot) (p .exprs) m) .test) (lowExpr tall) 1 (count EXPRS exprs) (λ m a b. ap (λ n. leb n 32) (sym (t .height-of m (omega arith)))))
+  exprs-fault : rowFault (low p .expr) (p .exprs) ≡ firstBad (lowExpr tall) (count EXPRS exprs)
+  exprs-fault = table-bad (low p .expr) (leaf bot) (lowExpr tall) (p .exprs) (count EXPRS exprs) (told-exprs told) (λ m b. ap (λ n. leb n 32) (sym (t .height-of m (omega (arith, b .1)))))
 
   -- the test of a statement
   stmt-test : (s : ℕ) → s ≤ 1024 → low p .stmt s (at skip (p .stmts) s) .test ≡ lowStmt heights counts stmts inits s
@@ -55,16 +46,14 @@ module _ (types : List ℕ) (kinds : ℕ) (variableOf exprs stmts inits heights 
       rw (e, stars-test p counts (exprsIn (stmtOf inits (headAt stmts s))) c, ← h .height-of s k)
 
   -- the first statement at fault
-  stmts-fault : firstFault 1 (numbered (low p .stmt) 1 (p .stmts)) ≡ firstBad (lowStmt heights counts stmts inits) 1 (count STMTS stmts)
-  stmts-fault =
-      table-bad (low p .stmt) skip (p .stmts)
-      ∙ rw stmts-many (bad-ext (λ m. low p .stmt m (at skip (p .stmts) m) .test) (lowStmt heights counts stmts inits) 1 (count STMTS stmts) (λ m a b. stmt-test m (omega arith)))
+  stmts-fault : rowFault (low p .stmt) (p .stmts) ≡ firstBad (lowStmt heights counts stmts inits) (count STMTS stmts)
+  stmts-fault = table-bad (low p .stmt) skip (lowStmt heights counts stmts inits) (p .stmts) (count STMTS stmts) (told-stmts told) (λ m b. stmt-test m (omega (arith, b .1)))
 
   -- THE FIRST LINE at fault
   pub low-line : (b x n e s r : ℕ) → b ≡ count EVENTS types + kinds + count (KINDS * VARIABLES) variableOf → x ≡ count EXPRS exprs → n ≡ count STMTS stmts
-      → e ≡ firstBad (lowExpr tall) 1 x → s ≡ firstBad (lowStmt heights counts stmts inits) 1 n → r ≡ termLine b x e s → r ≡ firstFault 1 (lines p (low p))
+      → e ≡ firstBad (lowExpr tall) x → s ≡ firstBad (lowStmt heights counts stmts inits) n → r ≡ onward b (joined e x s) → r ≡ firstFault 1 (lines p (low p))
   low-line b x n e s r i j k f g q =
-      sym (terms-fault p (low p .expr) (low p .stmt) ∙ rw (exprs-fault, stmts-fault, exprs-many, front-is types kinds variableOf p (told .fronted), q, f, g, i, j, k))
+      sym (terms-fault p (low p .expr) (low p .stmt) ∙ rw (exprs-fault, stmts-fault, told-exprs told, front-is types kinds variableOf p (told .fronted), q, f, g, i, j, k))
 
 -- FOR THE CODE
 -- too high

@@ -7,8 +7,8 @@ ghost use Rattle.programs.specs.Trees.{stars, tip};
 ghost use Rattle.tables.specs.Decode.{exprsOf, pairsOf};
 ghost use Rattle.soundness.specs.Asked.{low as asked};
 ghost use Rattle.soundness.specs.Sound.{lines, firstFault};
-ghost use Rattle.fronts.specs.First.{firstBad};
-ghost use Rattle.fronts.specs.Asking.{Told};
+ghost use Rattle.faults.specs.First.{firstBad};
+ghost use Rattle.faults.specs.Asking.{Told};
 ghost use Rattle.marks.specs.Marks.{Heights};
 ghost use Rattle.marks.specs.Tall.{lowAt};
 ghost use Rattle.lowness.specs.Trees.{few, Few, ExprHeights, ExprStars, starsOver};
@@ -163,7 +163,7 @@ fn stmt_stars(
 // The first of n expressions that is too high; 0 where none is.
 fn first_expr(heights: &[u16; Program::EXPRESSIONS + 1], n: usize) -> usize
     requires { ⌜ n ≤ 1024 ⌝ }
-    ensures { λ r. ⌜ (r ≡ firstBad (lowExpr (now (heights .entry))) 1 n) × (r ≤ n) ⌝ }
+    ensures { λ r. ⌜ (r ≡ firstBad (lowExpr (now (heights .entry))) n) × (r ≤ n) ⌝ }
 {
     let mut e = 1;
     while e <= n {
@@ -202,7 +202,7 @@ fn first_stmt(
     n: usize,
 ) -> usize
     requires { ⌜ (n ≤ 1024) × Few (now counts) ⌝ }
-    ensures { λ r. ⌜ (r ≡ firstBad (lowStmt (now (heights .entry)) (now (counts .entry)) (now (stmts .entry)) (now (inits .entry))) 1 n) × (r ≤ n) ⌝ }
+    ensures { λ r. ⌜ (r ≡ firstBad (lowStmt (now (heights .entry)) (now (counts .entry)) (now (stmts .entry)) (now (inits .entry))) n) × (r ≤ n) ⌝ }
 {
     let mut s = 1;
     while s <= n {
@@ -227,12 +227,12 @@ pub fn low(
 ) -> usize
     ensures { λ r. ⌜ ((p : Lines) → Told (now («event_types» .entry)) kinds (now («variable_of» .entry)) (now (exprs .entry)) (now (stmts .entry)) (now (inits .entry)) p → Heights p (now (heights .entry)) → r ≡ firstFault 1 (lines p (asked p))) ⌝ }
 {
-    let b = fronts::front(event_types, kinds, variable_of);
+    let b = faults::front(event_types, kinds, variable_of);
     let x = tables::expr_count(exprs);
     let n = tables::stmt_count(stmts);
     let tall = expr_heights(exprs);
     let counts = expr_stars(exprs);
     let e = first_expr(&tall, x);
     let s = first_stmt(heights, &counts, stmts, inits, n);
-    fronts::term_line(b, x, e, s)
+    faults::onward(b, faults::joined(e, x, s))
 }

@@ -1,10 +1,12 @@
 -- Document 01, "A map gives each event an action, deferred, or nothing"; document 002's Pop(m, n, α, e), and what a map holds back.
 use Prim.Native.Nat.{ℕ, suc}
-use mathlib.Core.Path.{_≡_, refl}
+use mathlib.Core.Path.{_≡_, refl, ap}
 use mathlib.Core.Option.{Option, none, some}
 use mathlib.Core.Bool.{Bool, true, false, not, cond, _&&_, _||_}
 use mathlib.Core.List.{List, [], _∷_}
+use lib.ListN.{length}
 use Rattle.lists.specs.Lists.{onOpt, isSome, at}
+use Rattle.lists.specs.Facts.{and-false}
 use Rattle.programs.specs.Program.{Program, Exit, Deferred, Step, Call, ActionOf, Trans}
 use Rattle.machines.specs.Config.{Reply, action, deferred, nothing}
 
@@ -46,14 +48,15 @@ module _ (p : Program) where
   abbrev pub callMap : ℕ → List Reply → List Reply
   callMap n α = inheritsFrom n 1 α
 
+  -- it is as long as the caller's
+  pub inherits-length : (n e : ℕ) (α : List Reply) → length (inheritsFrom n e α) ≡ length α
+  inherits-length n e [] = refl
+  inherits-length n e (x ∷ α) = ap suc (inherits-length n (suc e) α)
+
   -- "DEQUEUE takes the first pair whose event is not in (map deferred ∪ state deferred) minus events with a transition or action in the state itself."
   abbrev pub heldBack : ℕ → List Reply → ℕ → Bool
   heldBack n α e = (isDeferred (entryAt α e) || Deferred p n e) && not (Trans p n e || isSome (ActionOf p n e))
 
   -- "Letting an inherited deferral beat the state's own transition" is a misreading: what the state itself has a transition or an action for is never held back
   pub own-transition-wins : (n : ℕ) (α : List Reply) (e : ℕ) → Trans p n e ≡ true → heldBack n α e ≡ false
-  own-transition-wins n α e h = rw h (no (isDeferred (entryAt α e) || Deferred p n e))
-    where
-      no : (b : Bool) → b && false ≡ false
-      no true = refl
-      no false = refl
+  own-transition-wins n α e h = rw h (and-false (isDeferred (entryAt α e) || Deferred p n e))

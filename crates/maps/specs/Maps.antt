@@ -21,9 +21,10 @@ use Rattle.programs.specs.Program.{Program, Step, Call, ActionOf, Trans, Exit, 
 use Rattle.tables.specs.Decode.{statesOf, noState}
 use Rattle.index.specs.Index.{Says, saidAt, orZero}
 use Rattle.machines.specs.Config.{Reply, action, deferred, nothing}
-use Rattle.machines.specs.Maps.{isDeferred, isAction, entryAt, Pop, exitOrSkip, heldBack, inherits, inheritsFrom, callMap}
+use Rattle.machines.specs.Maps.{isDeferred, isAction, entryAt, Pop, exitOrSkip, heldBack, inherits, inheritsFrom, callMap, inherits-length}
 use Rattle.configs.specs.Decode.{replyOf}
 use Rattle.configs.specs.Encode.{replyCode}
+use Rattle.configs.specs.RoundTrip.{code-back}
 
 -- WHAT IS LENT
 -- `says` is the program's, and what a line leads to is numbered from 1: a 0 in `says` is for no line
@@ -85,7 +86,7 @@ entry-get p b maps j h k =
     ∙ ap replyOf (getD-take (length (p .events)) (part b EVENTS maps) j 0 h ∙ part-get b EVENTS maps j 0 k)
 
 -- and the one of event e.
-entry-at : (p : Program) (b : ℕ) (maps : List ℕ) (e : ℕ) → There (length (p .events)) e → e ≤ EVENTS → entryAt (mapAt p b maps) e ≡ replyOf (getD maps (b + (e - 1)) 0)
+pub entry-at : (p : Program) (b : ℕ) (maps : List ℕ) (e : ℕ) → There (length (p .events)) e → e ≤ EVENTS → entryAt (mapAt p b maps) e ≡ replyOf (getD maps (b + (e - 1)) 0)
 entry-at p b maps zero h k = absurd (omega arith)
 entry-at p b maps (suc e) h k = let q : suc e - 1 ≡ e = omega arith in rw q (entry-get p b maps e (omega arith) (omega arith))
 
@@ -97,7 +98,7 @@ deferred-code x = dite (ℕ-discrete x 0) (λ q. rw q) (λ z. rw (ne-eqb x 0 z) 
     top true = refl
     top false = refl
 
--- no action where it is 0 or 255,
+-- and no action where it is 0 or 255.
 action-code : (x : ℕ) → not (isSome (isAction (replyOf x))) ≡ (eqb x 0 || eqb x 255)
 action-code x = by (eqb x 0) (eqb x 255)
   where
@@ -105,10 +106,6 @@ action-code x = by (eqb x 0) (eqb x 255)
     by true b = refl
     by false true = refl
     by false false = refl
-
--- and is written as the number that it was read from.
-code-back : (x : ℕ) → replyCode (replyOf x) ≡ x
-code-back x = dite (ℕ-discrete x 0) (λ z. rw z) (λ z. dite (ℕ-discrete x 255) (λ t. rw t) (λ t. rw (ne-eqb x 0 z, ne-eqb x 255 t)))
 
 -- THE ANSWERS, by the numbers
 -- what is asked: 64 places from b on, a state and an event
@@ -186,11 +183,6 @@ inherits-get : (p : Program) (n e : ℕ) (α : List Reply) (j : ℕ) → j < len
 inherits-get p n e [] j h = absurd (omega arith)
 inherits-get p n e (x ∷ α) zero h = let q : e + 0 ≡ e = omega arith in rw q
 inherits-get p n e (x ∷ α) (suc j) h = let q : e + suc j ≡ suc e + j = omega arith in rw q (inherits-get p n (suc e) α j (omega arith))
-
--- as long as the caller's
-inherits-length : (p : Program) (n e : ℕ) (α : List Reply) → length (inheritsFrom p n e α) ≡ length α
-inherits-length p n e [] = refl
-inherits-length p n e (x ∷ α) = ap suc (inherits-length p n (suc e) α)
 
 module _ (p : Program) (n from : ℕ) (maps₀ : List ℕ) (few : length (p .events) ≤ EVENTS) (inside : from + 128 ≤ length maps₀) where
   -- as many entries as events,

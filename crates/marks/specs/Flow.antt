@@ -13,6 +13,7 @@ use lib.Dec.{eqb, ltb}
 use lib.ListN.{length, getD, set, length-set}
 use lib.Seq.{getD-set-same, getD-set-other}
 use Rattle.lists.specs.Lists.{any}
+use Rattle.lists.specs.Facts.{or-false, or-assoc, and-false}
 use Rattle.lists.specs.Down.{below, downward, below-is}
 use Rattle.rows.specs.Pad.{below?}
 use Rattle.rows.specs.Part.{Off}
@@ -50,21 +51,6 @@ among f zero = f 0
 among f (suc n) = f (suc n) || among f n
 
 -- BOOLS
--- or no
-pub or-false : (a : Bool) → a || false ≡ a
-or-false true = refl
-or-false false = refl
-
--- and no
-pub and-false : (a : Bool) → a && false ≡ false
-and-false true = refl
-and-false false = refl
-
--- one of three
-or-assoc : (a b c : Bool) → (a || b) || c ≡ a || (b || c)
-or-assoc true b c = refl
-or-assoc false b c = refl
-
 -- one of them, which held before or not, now holds where r does
 or-new : (a b r : Bool) → r || b ≡ ((a && r) || b) || r
 or-new true true true = refl

@@ -12,6 +12,7 @@ use lib.Dec.{eqb, leb}
 use lib.ListN.{length, getD, set, length-set}
 use lib.Seq.{getD-set-other}
 use Rattle.lists.specs.Lists.{any, there}
+use Rattle.lists.specs.Facts.{or-false, and-false}
 use Rattle.rows.specs.Pad.{below?}
 use Rattle.rows.specs.Seek.{table}
 use Rattle.programs.specs.Sizes.{KINDS, STMTS, ACTIONS, STATES}
@@ -22,7 +23,7 @@ use Rattle.tables.specs.Tables.{stmts-length}
 use Rattle.marks.specs.Sheet.{one-kind, Sheet, sheet-none, sheet-more, marking}
 use Rattle.marks.specs.Marks.{Served, Peopled}
 use Rattle.marks.specs.Inner.{partsIn, parts-are, parts-past}
-use Rattle.marks.specs.Flow.{or-false, and-false, on, reach, reach-leaf, left, left-mark, left-ext, left-none, flowed, flowed-keeps, flowed-on, flowed-off}
+use Rattle.marks.specs.Flow.{on, reach, reach-leaf, left, left-mark, left-ext, left-none, flowed, flowed-keeps, flowed-on, flowed-off}
 
 -- number r marked in kind k's row; a number past n, and what is no kind, is passed over
 unfoldable pub marked : ℕ → ℕ → ℕ → List ℕ → List ℕ

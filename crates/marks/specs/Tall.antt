@@ -60,6 +60,10 @@ Low l n = (m : ℕ) → m < n → getD l m 0 ≤ n
 abbrev pub Over : List ℕ → ℕ → List ℕ → ℕ → Type 0
 Over l n ts r = (r ≡ suc (most (lowAt 1 l n) ts)) × (r ≤ n + 1)
 
+-- the height over what is inside, told by other words
+pub over-told : (l : List ℕ) (n : ℕ) {ts us : List ℕ} {r : ℕ} → ts ≡ us → Over l n ts r → Over l n us r
+over-told l n e h = rw (← e) h
+
 module _ (l : List ℕ) (n : ℕ) (some : 1 ≤ n) (low : Low l n) where
   -- what stands for a number, lower or not, is at most n
   pub low-fits : (t : ℕ) → lowAt 1 l n t ≤ n

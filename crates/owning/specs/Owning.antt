@@ -23,7 +23,7 @@ use Rattle.remaining.specs.Held.{withRow, withPending}
 use Rattle.stacks.specs.Stacks.{Deep, Framed, deep, framed, stack-held, top-state, top-map}
 use Rattle.statements.specs.Heading.{Heading, actOf, RowAsked, PartAsked}
 use Rattle.statements.specs.Conditions.{TestAsked, BranchAsked}
-use Rattle.storing.specs.Stores.{withStored}
+use Rattle.storing.specs.Stores.{withStored, same-stored}
 use Rattle.storing.specs.Storing.{AssignAsked, ReturnAsked}
 use Rattle.raising.specs.Raising.{RaiseAsked}
 
@@ -87,7 +87,7 @@ Owned {h = h} a r values counts parts held = Left h a r (withStored (a .f) value
 module _ {stmts exprs places says types owners vartypes homes exits depths states maps values : List ℕ} {k w : ℕ} {h : Head} {counts parts held : List ℕ}
     (a : OwnAsked stmts exprs places says types owners vartypes homes exits depths states maps values k w h counts parts held) where
   pub same-lists : withStored (a .f) values counts parts held ≡ a .f
-  same-lists = λ i. withStored (a .f) (sym (a .values-are) i) (sym (a .counts-are) i) (sym (a .parts-are) i) (sym (a .held-are) i)
+  same-lists = same-stored (a .f) (a .values-are) (a .counts-are) (a .parts-are) (a .held-are)
 
   pub row-lists : (counts' parts' : List ℕ) → withRow (a .f) counts' parts' ≡ withStored (a .f) values counts' parts' held
   row-lists counts' parts' = λ i. withStored (a .f) (a .values-are i) counts' parts' (a .held-are i)

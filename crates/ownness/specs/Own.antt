@@ -8,8 +8,8 @@ use mathlib.Core.Logic.{⊎-elim}
 use native.Mathlib.Omega.{arith}
 use borrow.Author.Tests.{eq-eqb, ne-eqb}
 use lib.Dec.{eqb}
-use lib.ListN.{length, getD}
-use Rattle.lists.specs.Lists.{at, all, upTo}
+use lib.ListN.{getD}
+use Rattle.lists.specs.Lists.{at, all, upTo, There}
 use Rattle.lists.specs.Check.{equals, each}
 use Rattle.rows.specs.Pad.{below?}
 use Rattle.rows.specs.Seek.{table}
@@ -25,11 +25,12 @@ use Rattle.tables.specs.declared.Head.{Head}
 use Rattle.tables.specs.declared.Head.the-variants.{Skip, Assign, New, Delete, Send, Raise, Leave, Return, Assert, Seq, If, While}
 use Rattle.tables.specs.Decode.{count, noVariable, variableIn, variablesOf, exprsOf, headAt, pairIn, pairsOf, stmtOf}
 use Rattle.tables.specs.Numbered.{at-row, at-past}
-use Rattle.tables.specs.Tables.{exprs-length, stmts-length, stmt-head}
+use Rattle.tables.specs.Tables.{stmt-head}
 use Rattle.soundness.specs.Asked.{own, exprOwn, stmtOwn}
-use Rattle.soundness.specs.Sound.{lines, numbered, firstFault}
-use Rattle.fronts.specs.First.{firstBad, bad-ext, table-bad}
-use Rattle.fronts.specs.Asking.{Told, front-is, termLine, terms-fault}
+use Rattle.soundness.specs.Sound.{lines, firstFault}
+use Rattle.faults.specs.Faults.{onward, joined, rowFault}
+use Rattle.faults.specs.First.{firstBad, table-bad}
+use Rattle.faults.specs.Asking.{Told, told-exprs, told-stmts, front-is, terms-fault}
 use Rattle.marks.specs.Marks.{Served}
 use Rattle.marks.specs.Sheet.{says-at}
 use Rattle.marks.specs.Flow.{on}
@@ -111,14 +112,6 @@ up-ext f g (suc n) h = rw (h (suc n) (omega arith) (omega arith), up-ext f g n (
 
 module _ (types : List ℕ) (kinds : ℕ) (variableOf exprs stmts inits served marks : List ℕ) (p : Program) (told : Told types kinds variableOf exprs stmts inits p) (few : kinds ≤ 16)
     (h : Served p served) (m : ExprServed p marks) where
-  -- as many expressions as their table says
-  exprs-many : length (p .exprs) ≡ count EXPRS exprs
-  exprs-many = ap length (told .same-exprs) ∙ exprs-length exprs
-
-  -- and statements
-  stmts-many : length (p .stmts) ≡ count STMTS stmts
-  stmts-many = ap length (told .same-stmts) ∙ stmts-length stmts inits
-
   -- a variable's kind
   kind-is : (x : ℕ) → variableAt p x .of ≡ kindIn variableOf x
   kind-is x = ap (λ vs. at noVariable vs x .of) (told .fronted .same-variables) ∙ of-same variableOf (told .fronted .variableTypes) [] x
@@ -131,21 +124,21 @@ module _ (types : List ℕ) (kinds : ℕ) (variableOf exprs stmts inits served m
       (up-ext (λ k. not (served k) || eqb (kindIn variableOf x) k) (ownKind l n (kindIn variableOf x)) kinds (λ k a b. rw (f k a b)))
 
   -- a leaf's test
-  leaf-test : (n : ℕ) → 1 ≤ n → n < 1 + count EXPRS exprs → (l : Leaf) → exprOwn p n (leaf l) .test ≡ ownLeaf marks kinds variableOf n l
-  leaf-test n a b bot = refl
-  leaf-test n a b (intVal z) = refl
-  leaf-test n a b (boolVal c) = refl
-  leaf-test n a b (var x) = of-kinds (λ k. exprServes p k n) marks n x (λ k i j. sym (says-at m k n i (omega arith) (omega arith) (omega (arith, exprs-many))))
-  leaf-test n a b this = refl
-  leaf-test n a b msg = refl
-  leaf-test n a b arg = refl
-  leaf-test n a b star = refl
+  leaf-test : (n : ℕ) → There (count EXPRS exprs) n → (l : Leaf) → exprOwn p n (leaf l) .test ≡ ownLeaf marks kinds variableOf n l
+  leaf-test n b bot = refl
+  leaf-test n b (intVal z) = refl
+  leaf-test n b (boolVal c) = refl
+  leaf-test n b (var x) = of-kinds (λ k. exprServes p k n) marks n x (λ k i j. sym (says-at m k n i (omega arith) (omega (arith, b .1)) (omega (arith, b .1, told-exprs told))))
+  leaf-test n b this = refl
+  leaf-test n b msg = refl
+  leaf-test n b arg = refl
+  leaf-test n b star = refl
 
   -- an expression's
-  tree-test : (n : ℕ) → 1 ≤ n → n < 1 + count EXPRS exprs → (x : Expr) → exprOwn p n x .test ≡ ownTree marks kinds variableOf n x
-  tree-test n a b (leaf l) = leaf-test n a b l
-  tree-test n a b (unary o c) = refl
-  tree-test n a b (binary o c d) = refl
+  tree-test : (n : ℕ) → There (count EXPRS exprs) n → (x : Expr) → exprOwn p n x .test ≡ ownTree marks kinds variableOf n x
+  tree-test n b (leaf l) = leaf-test n b l
+  tree-test n b (unary o c) = refl
+  tree-test n b (binary o c d) = refl
 
   -- an init list's
   pairs-test : (j : ℕ) (l : List (ℕ × ℕ)) → each (λ xe. equals (variableAt p (xe .0) .of) j) l .test ≡ all (ownPair variableOf j) l
@@ -153,43 +146,39 @@ module _ (types : List ℕ) (kinds : ℕ) (variableOf exprs stmts inits served m
   pairs-test j (xe ∷ l) = rw (kind-is (xe .0), pairs-test j l)
 
   -- a variable of a statement
-  stmt-kinds : (n : ℕ) → 1 ≤ n → n < 1 + count STMTS stmts → (x : ℕ) → upTo (p .machines) (λ k. not (serves p k n) || eqb (variableAt p x .of) k) ≡ ownAt served kinds n (kindIn variableOf x)
-  stmt-kinds n a b x = of-kinds (λ k. serves p k n) served n x (λ k i j. sym (says-at h k n i (omega arith) (omega arith) (omega (arith, stmts-many))))
+  stmt-kinds : (n : ℕ) → There (count STMTS stmts) n → (x : ℕ) → upTo (p .machines) (λ k. not (serves p k n) || eqb (variableAt p x .of) k) ≡ ownAt served kinds n (kindIn variableOf x)
+  stmt-kinds n b x = of-kinds (λ k. serves p k n) served n x (λ k i j. sym (says-at h k n i (omega arith) (omega (arith, b .1)) (omega (arith, b .1, told-stmts told))))
 
   -- a statement's
-  head-test : (n : ℕ) → 1 ≤ n → n < 1 + count STMTS stmts → (t : Head) → stmtOwn p n (stmtOf inits t) .test ≡ ownHead served kinds variableOf inits n t
-  head-test n a b Skip = refl
-  head-test n a b (Assign x e) = stmt-kinds n a b x
-  head-test n a b (New x j i c) = rw (stmt-kinds n a b x, pairs-test (j .0) (pairsOf inits i c))
-  head-test n a b Delete = refl
-  head-test n a b (Send t e x) = refl
-  head-test n a b (Raise e x) = refl
-  head-test n a b Leave = refl
-  head-test n a b Return = refl
-  head-test n a b (Assert e) = refl
-  head-test n a b (Seq x y) = refl
-  head-test n a b (If e x y) = refl
-  head-test n a b (While e x) = refl
+  head-test : (n : ℕ) → There (count STMTS stmts) n → (t : Head) → stmtOwn p n (stmtOf inits t) .test ≡ ownHead served kinds variableOf inits n t
+  head-test n b Skip = refl
+  head-test n b (Assign x e) = stmt-kinds n b x
+  head-test n b (New x j i c) = rw (stmt-kinds n b x, pairs-test (j .0) (pairsOf inits i c))
+  head-test n b Delete = refl
+  head-test n b (Send t e x) = refl
+  head-test n b (Raise e x) = refl
+  head-test n b Leave = refl
+  head-test n b Return = refl
+  head-test n b (Assert e) = refl
+  head-test n b (Seq x y) = refl
+  head-test n b (If e x y) = refl
+  head-test n b (While e x) = refl
 
   -- the first expression at fault
-  exprs-fault : firstFault 1 (numbered (own p .expr) 1 (p .exprs)) ≡ firstBad (ownExpr marks kinds variableOf exprs) 1 (count EXPRS exprs)
-  exprs-fault =
-      table-bad (own p .expr) (leaf bot) (p .exprs)
-      ∙ rw exprs-many (bad-ext (λ n. exprOwn p n (at (leaf bot) (p .exprs) n) .test) (ownExpr marks kinds variableOf exprs) 1 (count EXPRS exprs)
-      (λ n a b. tree-test n a b (at (leaf bot) (p .exprs) n) ∙ ap (λ xs. ownTree marks kinds variableOf n (at (leaf bot) xs n)) (told .same-exprs)))
+  exprs-fault : rowFault (own p .expr) (p .exprs) ≡ firstBad (ownExpr marks kinds variableOf exprs) (count EXPRS exprs)
+  exprs-fault = table-bad (own p .expr) (leaf bot) (ownExpr marks kinds variableOf exprs) (p .exprs) (count EXPRS exprs) (told-exprs told)
+      (λ n b. tree-test n b (at (leaf bot) (p .exprs) n) ∙ ap (λ xs. ownTree marks kinds variableOf n (at (leaf bot) xs n)) (told .same-exprs))
 
   -- the first statement at fault
-  stmts-fault : firstFault 1 (numbered (own p .stmt) 1 (p .stmts)) ≡ firstBad (ownStmt served kinds variableOf stmts inits) 1 (count STMTS stmts)
-  stmts-fault =
-      table-bad (own p .stmt) skip (p .stmts)
-      ∙ rw stmts-many (bad-ext (λ n. stmtOwn p n (at skip (p .stmts) n) .test) (ownStmt served kinds variableOf stmts inits) 1 (count STMTS stmts)
-      (λ n a b. ap (λ t. stmtOwn p n t .test) (ap (λ l. at skip l n) (told .same-stmts) ∙ stmt-head stmts inits n) ∙ head-test n a b (headAt stmts n)))
+  stmts-fault : rowFault (own p .stmt) (p .stmts) ≡ firstBad (ownStmt served kinds variableOf stmts inits) (count STMTS stmts)
+  stmts-fault = table-bad (own p .stmt) skip (ownStmt served kinds variableOf stmts inits) (p .stmts) (count STMTS stmts) (told-stmts told)
+      (λ n b. ap (λ t. stmtOwn p n t .test) (ap (λ l. at skip l n) (told .same-stmts) ∙ stmt-head stmts inits n) ∙ head-test n b (headAt stmts n))
 
   -- THE FIRST LINE at fault
   pub own-line : (b x n e s r : ℕ) → b ≡ count EVENTS types + kinds + count (KINDS * VARIABLES) variableOf → x ≡ count EXPRS exprs → n ≡ count STMTS stmts
-      → e ≡ firstBad (ownExpr marks kinds variableOf exprs) 1 x → s ≡ firstBad (ownStmt served kinds variableOf stmts inits) 1 n → r ≡ termLine b x e s → r ≡ firstFault 1 (lines p (own p))
+      → e ≡ firstBad (ownExpr marks kinds variableOf exprs) x → s ≡ firstBad (ownStmt served kinds variableOf stmts inits) n → r ≡ onward b (joined e x s) → r ≡ firstFault 1 (lines p (own p))
   own-line b x n e s r i j k f g q =
-      sym (terms-fault p (own p .expr) (own p .stmt) ∙ rw (exprs-fault, stmts-fault, exprs-many, front-is types kinds variableOf p (told .fronted), q, f, g, i, j, k))
+      sym (terms-fault p (own p .expr) (own p .stmt) ∙ rw (exprs-fault, stmts-fault, told-exprs told, front-is types kinds variableOf p (told .fronted), q, f, g, i, j, k))
 
 -- FOR THE CODE
 -- what is left of the kinds to look at, from the last to the first

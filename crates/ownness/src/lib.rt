@@ -7,8 +7,8 @@ ghost use Rattle.programs.specs.Program.{Program as Lines};
 ghost use Rattle.tables.specs.Decode.{pairsOf};
 ghost use Rattle.soundness.specs.Asked.{own as asked};
 ghost use Rattle.soundness.specs.Sound.{lines, firstFault};
-ghost use Rattle.fronts.specs.First.{firstBad};
-ghost use Rattle.fronts.specs.Asking.{Told};
+ghost use Rattle.faults.specs.First.{firstBad};
+ghost use Rattle.faults.specs.Asking.{Told};
 ghost use Rattle.marks.specs.Marks.{Served};
 ghost use Rattle.ownness.specs.Own.{kindIn, ownKind, ownAt, ownLeaf, ownExpr, ownPair, ownStmt};
 use programs::Expr;
@@ -160,7 +160,7 @@ fn first_expr(
     x: usize,
 ) -> usize
     requires { ⌜ (x ≤ 1024) × (kinds ≤ 16) ⌝ }
-    ensures { λ r. ⌜ (r ≡ firstBad (ownExpr (now (marks .entry)) kinds (now («variable_of» .entry)) (now (exprs .entry))) 1 x) × (r ≤ x) ⌝ }
+    ensures { λ r. ⌜ (r ≡ firstBad (ownExpr (now (marks .entry)) kinds (now («variable_of» .entry)) (now (exprs .entry))) x) × (r ≤ x) ⌝ }
 {
     let mut e = 1;
     while e <= x {
@@ -182,7 +182,7 @@ fn first_stmt(
     n: usize,
 ) -> usize
     requires { ⌜ (n ≤ 1024) × (kinds ≤ 16) ⌝ }
-    ensures { λ r. ⌜ (r ≡ firstBad (ownStmt (now (served .entry)) kinds (now («variable_of» .entry)) (now (stmts .entry)) (now (inits .entry))) 1 n) × (r ≤ n) ⌝ }
+    ensures { λ r. ⌜ (r ≡ firstBad (ownStmt (now (served .entry)) kinds (now («variable_of» .entry)) (now (stmts .entry)) (now (inits .entry))) n) × (r ≤ n) ⌝ }
 {
     let mut s = 1;
     while s <= n {
@@ -208,11 +208,11 @@ pub fn own(
     requires { ⌜ kinds ≤ 16 ⌝ }
     ensures { λ r. ⌜ ((p : Lines) → Told (now («event_types» .entry)) kinds (now («variable_of» .entry)) (now (exprs .entry)) (now (stmts .entry)) (now (inits .entry)) p → Served p (now (served .entry)) → r ≡ firstFault 1 (lines p (asked p))) ⌝ }
 {
-    let b = fronts::front(event_types, kinds, variable_of);
+    let b = faults::front(event_types, kinds, variable_of);
     let x = tables::expr_count(exprs);
     let n = tables::stmt_count(stmts);
     let marks = expr_marks::expr_served(exprs, stmts, inits, served);
     let e = first_expr(&marks, kinds as usize, variable_of, exprs, x);
     let s = first_stmt(served, kinds as usize, variable_of, stmts, inits, n);
-    fronts::term_line(b, x, e, s)
+    faults::onward(b, faults::joined(e, x, s))
 }

@@ -4,7 +4,7 @@ use Prim.Native.Nat.{ℕ, zero, suc, _+_, _*_, _≤_, _<_}
 use mathlib.Core.Path.{_≡_, refl, sym, ap, _∙_}
 use mathlib.Core.Logic.{_⊎_, inl, inr, ⊎-elim, dite}
 use mathlib.Core.Option.{none, some}
-use mathlib.Core.Bool.{Bool, true, false, cond, not, true≢false}
+use mathlib.Core.Bool.{Bool, true, false, cond, not}
 use mathlib.Core.List.{List, [], _∷_}
 use native.Mathlib.Decide.{ℕ-discrete}
 use native.Mathlib.Numerals.{add-one}
@@ -13,7 +13,8 @@ use lib.Dec.{eqb}
 use lib.ListN.{length, getD, set, length-set}
 use lib.Seq.{getD-set-same, getD-set-other}
 use Rattle.configs.specs.Reversed.{downTo-length}
-use Rattle.lists.specs.Lists.{at}
+use Rattle.lists.specs.Lists.{at, isSome}
+use Rattle.lists.specs.Tells.{is-none}
 use Rattle.lists.specs.Facts.{All-has}
 use Rattle.lists.specs.Down.{downward}
 use Rattle.rows.specs.Part.{Off, part, part-get, off-set, part-ext}
@@ -102,7 +103,7 @@ row-past : (b n l v : ℕ) (xs : List ℕ) → n ≤ l → rowAt b n (set xs (b 
 row-past b n l v xs h = row-ext b n xs (set xs (b + l) v) (λ k q. getD-set-other xs (b + l) (b + k) v 0 (λ e. omega arith))
 
 -- and a store to the head's place changes the head
-row-head : (b l v : ℕ) (xs : List ℕ) → b + l < length xs → rowAt b (suc l) (set xs (b + l) v) ≡ v ∷ rowAt b l xs
+pub row-head : (b l v : ℕ) (xs : List ℕ) → b + l < length xs → rowAt b (suc l) (set xs (b + l) v) ≡ v ∷ rowAt b l xs
 row-head b l v xs h = rw (getD-set-same xs (b + l) v 0 h, row-past b l l v xs (omega arith))
 
 -- the row of a room that is lifted out of the flat list
@@ -201,20 +202,20 @@ isSeqHead (Seq a b) = true
 isSeqHead (If e a b) = false
 isSeqHead (While e a) = false
 
--- a statement is no seq where its head is none
-seq-none : (inits : List ℕ) (h : Head) → isSeqHead h ≡ false → isSeq (stmtOf inits h) ≡ none
-seq-none inits Skip e = refl
-seq-none inits (Assign x y) e = refl
-seq-none inits (New x k i n) e = refl
-seq-none inits Delete e = refl
-seq-none inits (Send x y z) e = refl
-seq-none inits (Raise x y) e = refl
-seq-none inits Leave e = refl
-seq-none inits Return e = refl
-seq-none inits (Assert x) e = refl
-seq-none inits (Seq x y) e = absurd (true≢false e)
-seq-none inits (If x y z) e = refl
-seq-none inits (While x y) e = refl
+-- a statement is a seq where its head is
+seq-head : (inits : List ℕ) (h : Head) → isSome (isSeq (stmtOf inits h)) ≡ isSeqHead h
+seq-head inits Skip = refl
+seq-head inits (Assign x e) = refl
+seq-head inits (New x k i n) = refl
+seq-head inits Delete = refl
+seq-head inits (Send t e a) = refl
+seq-head inits (Raise e a) = refl
+seq-head inits Leave = refl
+seq-head inits Return = refl
+seq-head inits (Assert e) = refl
+seq-head inits (Seq a b) = refl
+seq-head inits (If e a b) = refl
+seq-head inits (While e a) = refl
 
 module _ (stmts : List ℕ) (p : Program) (said : Said stmts p) (s : ℕ) where
   -- statement s is its head with its init list
@@ -222,16 +223,20 @@ module _ (stmts : List ℕ) (p : Program) (said : Said stmts p) (s : ℕ) where
   head-is = ap (λ l. at skip l s) (said .same) ∙ stmt-head stmts (said .inits) s
 
   -- so it is a skip where the head is
-  head-skip : isSkip (stmtAt p s) ≡ isSkipHead (headAt stmts s)
+  pub head-skip : isSkip (stmtAt p s) ≡ isSkipHead (headAt stmts s)
   head-skip = ap isSkip head-is ∙ skip-head (said .inits) (headAt stmts s)
 
-  -- a seq with its parts where the head is one,
+  -- a seq where the head is one,
+  pub head-seqs : isSome (isSeq (stmtAt p s)) ≡ isSeqHead (headAt stmts s)
+  head-seqs = ap (λ t. isSome (isSeq t)) head-is ∙ seq-head (said .inits) (headAt stmts s)
+
+  -- with the head's parts,
   head-seq : (x y : ℕ) → headAt stmts s ≡ Seq x y → isSeq (stmtAt p s) ≡ some (x, y)
   head-seq x y h = ap isSeq head-is ∙ ap (λ t. isSeq (stmtOf (said .inits) t)) h
 
   -- and no seq where the head is none
-  head-none : isSeqHead (headAt stmts s) ≡ false → isSeq (stmtAt p s) ≡ none
-  head-none h = ap isSeq head-is ∙ seq-none (said .inits) (headAt stmts s) h
+  pub head-none : isSeqHead (headAt stmts s) ≡ false → isSeq (stmtAt p s) ≡ none
+  head-none h = is-none (isSeq (stmtAt p s)) .holds (ap not (head-seqs ∙ h))
 
 -- NO LONE SKIP
 module _ (stmts : List ℕ) (b n : ℕ) (xs : List ℕ) (row : Row b n xs) where

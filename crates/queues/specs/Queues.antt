@@ -10,11 +10,11 @@ use native.Mathlib.Omega.{arith}
 use borrow.Author.Tests.{eq-eqb, ne-eqb, lt-ltb, le-ltb, ltb-true}
 use lib.Dec.{eqb, ltb}
 use lib.ListN.{length, take, drop, getD, set, length-append, length-drop, length-set, List·getD-eq-default}
-use lib.Seq.{getD-drop, getD-set-same, getD-set-other, length-take-le, set-getD, take-take}
+use lib.Seq.{getD-drop, getD-set-same, getD-set-other, length-take-le, set-getD}
 use Rattle.lists.specs.Lists.{onOpt, isSome, any}
 use Rattle.lists.specs.Facts.{or-left, or-right, or-none}
 use Rattle.rows.specs.Pad.{pad, pad-length, pad-get, pad-take, pushes, without, without-length}
-use Rattle.rows.specs.Part.{part, put, part-length, put-length, put-part, part-put, set-put, row-other}
+use Rattle.rows.specs.Part.{part, put, part-length, part-front, put-length, put-part, part-put, set-put, row-other}
 use Rattle.programs.specs.Sizes.{QUEUE}
 
 -- THE QUEUE of room i: the numbers that wait
@@ -129,8 +129,7 @@ module _ (pairs waiting : List ℕ) (i : ℕ) (ok : QueueOk pairs waiting i) whe
 
   -- the numbers that are counted are the queue
   pub queue-part : part (i * 16) (getD waiting i 0) pairs ≡ queueAt pairs waiting i
-  unfolding part
-  queue-part = sym (take-take (getD waiting i 0) 16 (drop (i * 16) pairs) (ok .fits))
+  queue-part = sym (part-front (i * 16) 16 (getD waiting i 0) pairs (ok .fits))
 
   -- the places hold the queue
   pub places-same : pairs ≡ putQueue i (queueAt pairs waiting i) pairs

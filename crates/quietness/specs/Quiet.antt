@@ -10,7 +10,8 @@ use borrow.Author.Tests.{lt-ltb, le-ltb}
 use lib.Dec.{eqb, ltb}
 use lib.ListN.{length, getD, set, length-set, List·getD-eq-default}
 use lib.Seq.{getD-set-same, getD-set-other}
-use Rattle.lists.specs.Lists.{at, all}
+use Rattle.lists.specs.Lists.{at, all, There}
+use Rattle.lists.specs.Facts.{and-true}
 use Rattle.lists.specs.Down.{below, downward, below-is}
 use Rattle.rows.specs.Pad.{below?}
 use Rattle.programs.specs.Sizes.{KINDS, EVENTS, VARIABLES, EXPRS, STMTS, ACTIONS, STATES}
@@ -22,9 +23,10 @@ use Rattle.tables.specs.Decode.{count, headAt, headIn, headsOf, stmtOf, exprsOf
 use Rattle.tables.specs.Numbered.{at-row, at-past}
 use Rattle.tables.specs.Tables.{stmt-head, exprs-length, stmts-length, actions-length, states-length}
 use Rattle.soundness.specs.Asked.{isQuiet, quietly, quiet}
-use Rattle.soundness.specs.Sound.{lines, numbered, firstFault}
-use Rattle.fronts.specs.First.{firstBad, behind, bad-ext, table-bad}
-use Rattle.fronts.specs.Asking.{Fronted, fronted-program, front-is, states-fault}
+use Rattle.soundness.specs.Sound.{lines, firstFault}
+use Rattle.faults.specs.Faults.{onward, rowFault}
+use Rattle.faults.specs.First.{firstBad, table-bad}
+use Rattle.faults.specs.Asking.{Fronted, fronted-program, front-is, states-fault}
 use Rattle.marks.specs.declared.Inner.{Inner}
 use Rattle.marks.specs.declared.Inner.the-variants.{Nothing, One, Two}
 use Rattle.marks.specs.Marks.{Stated, stated-program}
@@ -176,11 +178,7 @@ all-none f i e = rw e
 
 -- one part,
 pub all-one : (f : ℕ → Bool) (i : Inner) (a : ℕ) (r : Bool) → i ≡ One a → r ≡ f a → r ≡ all f (listed i)
-all-one f i a r e h = rw (e, h) (go (f a))
-  where
-    go : (b : Bool) → b ≡ b && true
-    go true = refl
-    go false = refl
+all-one f i a r e h = rw (e, h) (sym (and-true (f a) true refl))
 
 -- two, the first of which is not quiet,
 pub all-first : (f : ℕ → Bool) (i : Inner) (a b : ℕ) (r : Bool) → i ≡ Two a b → r ≡ f a → r ≡ false → false ≡ all f (listed i)
@@ -188,11 +186,7 @@ all-first f i a b r e h k = rw (e, ← h, k)
 
 -- or is
 pub all-second : (f : ℕ → Bool) (i : Inner) (a b : ℕ) (r s : Bool) → i ≡ Two a b → r ≡ f a → r ≡ true → s ≡ f b → s ≡ all f (listed i)
-all-second f i a b r s e h k j = rw (e, ← h, k, j) (go (f b))
-  where
-    go : (b : Bool) → b ≡ b && true
-    go true = refl
-    go false = refl
+all-second f i a b r s e h k j = rw (e, ← h, k, j) (sym (and-true (f b) true refl))
 
 -- a head and its parts, told
 pub here-told : (stmts loud : List ℕ) (s : ℕ) (h : Head) (ts : List ℕ) (q r : Bool) → h ≡ headAt stmts s → ts ≡ headParts h → q ≡ quietHead h → q ≡ true → r ≡ all (quietLow loud s) ts → r ≡ quietHere stmts loud s
@@ -218,23 +212,21 @@ module _ (types : List ℕ) (kinds : ℕ) (variableOf exprs stmts actionOf state
   states-many = ap length (told .same-states) ∙ states-length stateOf (told .entries) exits (told .flags)
 
   -- a state's exit
-  exit-is : (n : ℕ) → 1 ≤ n → n < 1 + count STATES stateOf → at noState (p .states) n .exit ≡ getD exits n 0
+  exit-is : (n : ℕ) → There (count STATES stateOf) n → at noState (p .states) n .exit ≡ getD exits n 0
   unfolding statesOf
-  exit-is n a b = ap (λ (s : State). s .exit) (ap (λ ss. at noState ss n) (told .same-states) ∙ at-row (stateIn stateOf (told .entries) exits (told .flags)) noState {e = n} refl (omega arith) (omega arith))
+  exit-is n b = ap (λ (s : State). s .exit) (ap (λ ss. at noState ss n) (told .same-states) ∙ at-row (stateIn stateOf (told .entries) exits (told .flags)) noState {e = n} refl (b .0) (b .1))
 
   -- its test
-  state-test : (n : ℕ) → 1 ≤ n → n < 1 + count STATES stateOf → quietly p (at noState (p .states) n .exit) ≡ quietExit loud exits n
-  state-test n a b = ap (quietly p) (exit-is n a b) ∙ sym (l .quiet-at (getD exits n 0) ∙ hushed-is stmts p (told .stated) (getD exits n 0))
+  state-test : (n : ℕ) → There (count STATES stateOf) n → quietly p (at noState (p .states) n .exit) ≡ quietExit loud exits n
+  state-test n b = ap (quietly p) (exit-is n b) ∙ sym (l .quiet-at (getD exits n 0) ∙ hushed-is stmts p (told .stated) (getD exits n 0))
 
   -- the first state at fault
-  states-at-fault : firstFault 1 (numbered (quiet p .state) 1 (p .states)) ≡ firstBad (quietExit loud exits) 1 (count STATES stateOf)
-  states-at-fault =
-      table-bad (quiet p .state) noState (p .states)
-      ∙ rw states-many (bad-ext (λ m. quietly p (at noState (p .states) m .exit)) (quietExit loud exits) 1 (count STATES stateOf) state-test)
+  states-at-fault : rowFault (quiet p .state) (p .states) ≡ firstBad (quietExit loud exits) (count STATES stateOf)
+  states-at-fault = table-bad (quiet p .state) noState (quietExit loud exits) (p .states) (count STATES stateOf) states-many state-test
 
   -- THE FIRST LINE at fault
   pub quiet-line : (b x n a m q r : ℕ) → b ≡ count EVENTS types + kinds + count (KINDS * VARIABLES) variableOf → x ≡ count EXPRS exprs → n ≡ count STMTS stmts → a ≡ count ACTIONS actionOf
-      → m ≡ count STATES stateOf → q ≡ firstBad (quietExit loud exits) 1 m → r ≡ behind (b + x + n + a) q → r ≡ firstFault 1 (lines p (quiet p))
+      → m ≡ count STATES stateOf → q ≡ firstBad (quietExit loud exits) m → r ≡ onward (b + x + n + a) q → r ≡ firstFault 1 (lines p (quiet p))
   quiet-line b x n a m q r i j k f e g h =
       sym (states-fault p (quiet p .state) ∙ rw (
         states-at-fault,

@@ -7,7 +7,7 @@ ghost use Rattle.lists.specs.Lists.{all};
 ghost use Rattle.programs.specs.Program.{Program as Lines};
 ghost use Rattle.soundness.specs.Asked.{quiet as asked};
 ghost use Rattle.soundness.specs.Sound.{lines, firstFault};
-ghost use Rattle.fronts.specs.First.{firstBad};
+ghost use Rattle.faults.specs.First.{firstBad};
 ghost use Rattle.marks.specs.Inner.{listed};
 ghost use Rattle.quietness.specs.Quiet.{ToldStates, Loud, quietHead, quietLow, quietHere, quietExit};
 use marks::Inner;
@@ -118,7 +118,7 @@ fn first_state(
     n: usize,
 ) -> usize
     requires { ⌜ (n ≤ 64) × (length (now loud) ≡ 1025) ⌝ }
-    ensures { λ r. ⌜ (r ≡ firstBad (quietExit (now (loud .entry)) (now (exits .entry))) 1 n) × (r ≤ n) ⌝ }
+    ensures { λ r. ⌜ (r ≡ firstBad (quietExit (now (loud .entry)) (now (exits .entry))) n) × (r ≤ n) ⌝ }
 {
     let mut q = 1;
     while q <= n {
@@ -144,12 +144,12 @@ pub fn quiet(
 ) -> usize
     ensures { λ r. ⌜ ((p : Lines) → ToldStates (now («event_types» .entry)) kinds (now («variable_of» .entry)) (now (exprs .entry)) (now (stmts .entry)) (now («action_of» .entry)) (now («state_of» .entry)) (now («state_exit» .entry)) p → r ≡ firstFault 1 (lines p (asked p))) ⌝ }
 {
-    let b = fronts::front(event_types, kinds, variable_of);
+    let b = faults::front(event_types, kinds, variable_of);
     let x = tables::expr_count(exprs);
     let n = tables::stmt_count(stmts);
     let a = tables::action_count(action_of);
     let m = tables::state_count(state_of);
     let marks = loud(stmts);
     let q = first_state(&marks, state_exit, m);
-    fronts::line_behind(b + x + n + a, q)
+    faults::onward(b + x + n + a, q)
 }

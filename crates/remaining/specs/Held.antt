@@ -198,9 +198,10 @@ module _ (p : Program) (f : Flat) (k : ℕ) (m : Machine) (sound : Sound p) (s :
     row-after : RowHeld k counts parts (g p (m .loc .row))
     row-after = change .becomes p of (m .loc .row) row-there
 
-    -- what is pending stays
-    pub row-changed : Changed f k (setLocal (rowed (g p (m .loc .row)) (m .loc .pending) (m .loc)) m) (withRow f counts parts)
-    row-changed = changed f k _ (withRow f counts parts) (s .sized) (record {
+    -- q is pending afterwards, by the number in its place
+    row-sets : (q : Pending) (held : List ℕ) → Elsewhere k 1 (f .held) held → getD held k 0 ≡ heldCode q
+        → Changed f k (setLocal (rowed (g p (m .loc .row)) q (m .loc)) m) (withPending f counts parts held)
+    row-sets q held off e = changed f k _ (withPending f counts parts held) (s .sized) (record {
       ids = untouched;
       kinds = untouched;
       depths = untouched;
@@ -209,30 +210,20 @@ module _ (p : Program) (f : Flat) (k : ℕ) (m : Machine) (sound : Sound p) (s :
       values = untouched;
       counts = change .counts-off;
       parts = change .parts-off;
-      held = untouched;
+      held = off;
       waiting = untouched;
       pairs = untouched;
       next = refl;
     }) (room-path (ap (λ r. r .this .0) (s .holds)) (ap (λ r. r .kind .0) (s .holds)) (ap (λ r. r .depth) (s .holds)) (ap (λ r. r .states) (s .holds)) (ap (λ r. r .maps) (s .holds)) (ap (λ r. r .values) (s .holds))
-        (row-taken row-after .0) (row-taken row-after .1) (ap (λ r. r .held) (s .holds)) (ap (λ r. r .waiting) (s .holds)) (ap (λ r. r .pairs) (s .holds)))
+        (row-taken row-after .0) (row-taken row-after .1) e (ap (λ r. r .waiting) (s .holds)) (ap (λ r. r .pairs) (s .holds)))
+
+    -- what is pending stays
+    pub row-changed : Changed f k (setLocal (rowed (g p (m .loc .row)) (m .loc .pending) (m .loc)) m) (withRow f counts parts)
+    row-changed = row-sets (m .loc .pending) (f .held) untouched (ap (λ r. r .held) (s .holds))
 
     -- q is pending afterwards
     pub row-pends : (q : Pending) → Changed f k (setLocal (rowed (g p (m .loc .row)) q (m .loc)) m) (withPending f counts parts (set (f .held) k (heldCode q)))
-    row-pends q = changed f k _ (withPending f counts parts (set (f .held) k (heldCode q))) (s .sized) (record {
-      ids = untouched;
-      kinds = untouched;
-      depths = untouched;
-      states = untouched;
-      maps = untouched;
-      values = untouched;
-      counts = change .counts-off;
-      parts = change .parts-off;
-      held = touched-place k (heldCode q) (f .held);
-      waiting = untouched;
-      pairs = untouched;
-      next = refl;
-    }) (room-path (ap (λ r. r .this .0) (s .holds)) (ap (λ r. r .kind .0) (s .holds)) (ap (λ r. r .depth) (s .holds)) (ap (λ r. r .states) (s .holds)) (ap (λ r. r .maps) (s .holds)) (ap (λ r. r .values) (s .holds))
-        (row-taken row-after .0) (row-taken row-after .1) (getD-set-same (f .held) k (heldCode q) 0 (omega (arith, s .sized .held-32, s .room))) (ap (λ r. r .waiting) (s .holds)) (ap (λ r. r .pairs) (s .holds)))
+    row-pends q = row-sets q (set (f .held) k (heldCode q)) (touched-place k (heldCode q) (f .held)) (getD-set-same (f .held) k (heldCode q) 0 (omega (arith, s .sized .held-32, s .room)))
 
 -- THE RULES OF FORM need no more of what is pending than whether something is
 pub tidy-awaits : (p : Program) (r : List ℕ) (q : Pending) → tidied (awaits q) p r ≡ tidy p r q

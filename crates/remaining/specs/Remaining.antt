@@ -1,21 +1,21 @@
 -- What the functions of src/lib.rt are asked of the row of parts in room k, and what each store makes of it.
 use Prim.Native.Nat.{ℕ, zero, suc, _+_, _-_, _*_, _≤_, _<_}
 use mathlib.Core.Path.{_≡_, refl, sym, ap, _∙_, subst}
-use mathlib.Core.Logic.{⊎-elim, dite}
+use mathlib.Core.Logic.{inl, inr, ⊎-elim, dite}
 use mathlib.Core.Bool.{Bool}
 use mathlib.Core.List.{List, [], _∷_}
 use native.Mathlib.Decide.{ℕ-discrete}
 use native.Mathlib.Numerals.{add-one}
 use native.Mathlib.Omega.{arith}
-use lib.ListN.{length, getD, set, drop, length-set}
+use lib.ListN.{length, getD, set, drop, replicate, length-set, length-replicate, getD-replicate}
 use lib.Seq.{getD-set-same, getD-set-other}
 use Rattle.rows.specs.Pad.{below?}
-use Rattle.rows.specs.Part.{Off}
+use Rattle.rows.specs.Part.{Off, put, put-length, put-in, put-out}
 use Rattle.programs.specs.Sizes.{ROW}
 use Rattle.programs.specs.Program.{Program}
 use Rattle.programs.specs.Statements.{height}
 use Rattle.kept.specs.KeptRow.{height-low}
-use Rattle.parts.specs.Parts.{Row, rowAt, row-ext, Said, Any, Ready, Becomes, becomes-then, finished, tidied}
+use Rattle.parts.specs.Parts.{Row, rowAt, row-ext, row-head, Said, Any, Ready, Becomes, becomes-then, finished, tidied}
 use Rattle.engine.specs.Holding.{RowHeld, RowBecomes}
 
 -- a row stands in room k,
@@ -60,11 +60,6 @@ for-some h = record { row = h .row; off = h .off; reads = λ p o. h .reads p tt 
 off-store : (b l v : ℕ) (xs : List ℕ) → l < ROW → (j : ℕ) → Off b ROW j → getD (set xs (b + l) v) j 0 ≡ getD xs j 0
 off-store b l v xs h j o = getD-set-other xs (b + l) j v 0 (λ e. ⊎-elim (λ (i : j < b). omega arith) (λ (i : b + ROW ≤ j). omega arith) o)
 
--- the row with the store of a head
-head-stored : (b l v : ℕ) (xs : List ℕ) → b + l < length xs → rowAt b (suc l) (set xs (b + l) v) ≡ v ∷ rowAt b l xs
-head-stored b l v xs h =
-    rw (getD-set-same xs (b + l) v 0 h, row-ext b l xs (set xs (b + l) v) (λ j q. getD-set-other xs (b + l) (b + j) v 0 (λ e. omega arith)))
-
 module _ (b l v : ℕ) (xs : List ℕ) where
   -- another head
   pub head-replaced : (n : ℕ) → l + 1 ≡ n → Row b n xs → Becomes b n xs Any (λ p r. v ∷ drop 1 r) n (set xs (b + l) v)
@@ -76,7 +71,7 @@ module _ (b l v : ℕ) (xs : List ℕ) where
       zeros = λ j i h. getD-set-other xs (b + l) (b + j) v 0 (λ z. omega arith) ∙ row .zeros j i h;
     };
     off = off-store b l v xs (omega (arith, row .fits));
-    reads = λ p o. let q : n ≡ suc l = omega arith in rw q (head-stored b l v xs (omega (arith, row .long, row .inside, row .fits)));
+    reads = λ p o. let q : n ≡ suc l = omega arith in rw q (row-head b l v xs (omega (arith, row .long, row .inside, row .fits)));
   }
 
   -- one more
@@ -89,7 +84,7 @@ module _ (b l v : ℕ) (xs : List ℕ) where
       zeros = λ j i q. getD-set-other xs (b + l) (b + j) v 0 (λ e. omega arith) ∙ row .zeros j (omega arith) q;
     };
     off = off-store b l v xs h;
-    reads = λ p o. rw (add-one l) (head-stored b l v xs (omega (arith, row .long, row .inside)));
+    reads = λ p o. rw (add-one l) (row-head b l v xs (omega (arith, row .long, row .inside)));
   }
 
 -- one less
@@ -222,47 +217,30 @@ module _ (stmts : List ℕ) (k : ℕ) (counts parts : List ℕ) (at : Dropping s
     reads = λ p s. let q : getD counts k 0 ≡ 1 = omega (arith, at .headed .some) in rw q;
   })
 
--- THE LOOP THAT CLEARS: the first i of n parts are zero
-pub record Clearing (b n : ℕ) (xs₀ : List ℕ) (i : ℕ) (xs : List ℕ) : Type 0 where
-  pub before : i ≤ n
-  pub row : Row b n xs
-  pub gone : (j : ℕ) → j < i → getD xs (b + j) 0 ≡ 0
-  pub off : (j : ℕ) → Off b ROW j → getD xs j 0 ≡ getD xs₀ j 0
-
--- before the first turn
-pub clear-first : (b n : ℕ) (xs : List ℕ) → Row b n xs → Clearing b n xs 0 xs
-clear-first b n xs row = record { before = omega arith; row = row; gone = λ j h. absurd (omega arith); off = λ j o. refl }
-
--- one turn
-pub clear-more : (b n : ℕ) (xs₀ : List ℕ) (i : ℕ) (xs : List ℕ) → i < n → Clearing b n xs₀ i xs → Clearing b n xs₀ (i + 1) (set xs (b + i) 0)
-clear-more b n xs₀ i xs h c = record {
-  before = omega arith;
-  row = record {
-    long = length-set xs (b + i) 0 ∙ c .row .long;
-    inside = c .row .inside;
-    fits = c .row .fits;
-    zeros = λ j u v. getD-set-other xs (b + i) (b + j) 0 0 (λ e. omega arith) ∙ c .row .zeros j u v;
-  };
-  gone = gone;
-  off = λ j o. off-store b i 0 xs (omega (arith, c .row .fits)) j o ∙ c .off j o;
+-- NO PART IS LEFT: the n places that the parts took are zero
+pub row-cleared : (b n : ℕ) (xs : List ℕ) → Row b n xs → Becomes b n xs Any (λ p r. []) 0 (put b (replicate n 0) xs)
+row-cleared b n xs row = record {
+  row = record { long = put-length b (replicate n 0) xs inside ∙ row .long; inside = row .inside; fits = omega arith; zeros = zeros };
+  off = λ j o. put-out b (replicate n 0) xs j 0 inside (⊎-elim (λ (i : j < b). inl i) (λ (i : b + ROW ≤ j). inr (omega (arith, size, row .fits))) o);
+  reads = λ p o. refl;
 }
   where
-    gone : (j : ℕ) → j < i + 1 → getD (set xs (b + i) 0) (b + j) 0 ≡ 0
-    gone j u = dite (ℕ-discrete j i)
-        (λ (z : j ≡ i). rw z (getD-set-same xs (b + i) 0 0 (omega (arith, c .row .long, c .row .inside, c .row .fits))))
-        (λ (z : j ≡ i → ⊥). getD-set-other xs (b + i) (b + j) 0 0 (λ t. z (omega arith)) ∙ c .gone j (omega arith))
+    size : length (replicate {A = ℕ} n 0) ≡ n
+    size = length-replicate n 0
 
--- after the last
-pub clear-left : (k : ℕ) (counts parts₀ : List ℕ) (i : ℕ) (parts : List ℕ) → Standing k counts parts₀ → getD counts k 0 ≤ i → Clearing (k * 33) (getD counts k 0) parts₀ i parts
+    inside : b + length (replicate {A = ℕ} n 0) ≤ length xs
+    inside = omega (arith, row .long, row .inside, row .fits, size)
+
+    zeros : (j : ℕ) → 0 ≤ j → j < ROW → getD (put b (replicate n 0) xs) (b + j) 0 ≡ 0
+    zeros j u v = ⊎-elim
+        (λ (z : j < n). put-in b (replicate n 0) xs j 0 inside (omega (arith, size)) ∙ getD-replicate n j 0 0 z)
+        (λ (z : n ≤ j). put-out b (replicate n 0) xs (b + j) 0 inside (inr (omega (arith, size))) ∙ row .zeros j z v)
+        (below? j n)
+
+-- what the loop leaves that stores the zeros
+pub clear-left : (k : ℕ) (counts parts₀ parts : List ℕ) → Standing k counts parts₀ → parts ≡ put (k * 33) (replicate (getD counts k 0) 0) parts₀
     → RowBecomes k counts parts₀ Any (λ p r. []) (set counts k 0) parts
-clear-left k counts parts₀ i parts s h c = counted s (record {
-  row = record { long = c .row .long; inside = c .row .inside; fits = omega arith; zeros = zeros };
-  off = c .off;
-  reads = λ p o. refl;
-})
-  where
-    zeros : (j : ℕ) → 0 ≤ j → j < ROW → getD parts (k * 33 + j) 0 ≡ 0
-    zeros j u v = ⊎-elim (λ (z : j < getD counts k 0). c .gone j (omega arith)) (λ (z : getD counts k 0 ≤ j). c .row .zeros j z v) (below? j (getD counts k 0))
+clear-left k counts parts₀ parts s e = rw e (counted s (row-cleared (k * 33) (getD counts k 0) parts₀ (s .row)))
 
 -- what is asked of the push after it
 pub cleared : (stmts : List ℕ) (k : ℕ) (counts parts counts' parts' : List ℕ) (a : ℕ) → Placing stmts k counts parts a 0 → RowBecomes k counts parts Any (λ p r. []) counts' parts'

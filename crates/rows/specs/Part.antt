@@ -8,7 +8,7 @@ use native.Mathlib.Omega.{arith}
 use native.Mathlib.Decide.{ℕ-discrete}
 use native.Mathlib.Nat.{mul-le-mul-right, suc-mul}
 use lib.ListN.{length, take, drop, getD, set, length-append, length-take, length-drop, length-set, List·getD-append}
-use lib.Seq.{ext-getD, getD-append-add, getD-set-same, getD-set-other, getD-take, getD-drop, length-take-le}
+use lib.Seq.{ext-getD, getD-append-add, getD-set-same, getD-set-other, getD-take, getD-drop, length-take-le, take-take}
 use Rattle.rows.specs.Pad.{below?}
 
 -- k is outside the n places from b on
@@ -54,6 +54,11 @@ module _ {A : Type 0} where
   pub part-get : (b w : ℕ) (xs : List A) (j : ℕ) (z : A) → j < w → getD (part b w xs) j z ≡ getD xs (b + j) z
   unfolding part
   part-get b w xs j z h = getD-take w (drop b xs) j z h ∙ getD-drop b xs j z
+
+  -- the first n elements of a part
+  pub part-front : (b w n : ℕ) (xs : List A) → n ≤ w → take n (part b w xs) ≡ part b n xs
+  unfolding part
+  part-front b w n xs h = take-take n w (drop b xs) h
 
   head-length : (b : ℕ) (r xs : List A) → b + length r ≤ length xs → length (take b xs ++ r) ≡ b + length r
   head-length b r xs h = simp (length-append, length-take) (omega arith)

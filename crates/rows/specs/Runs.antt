@@ -1,10 +1,10 @@
 -- Laws of rows that lie in a room's places: a part of a part, a store in it; and of a list with zeros behind it that gains or loses a run at its end.
 use Prim.Native.Nat.{ℕ, _+_, _-_, _≤_, _<_}
 use mathlib.Core.Path.{_≡_, ap, sym, _∙_}
-use mathlib.Core.List.{List, [], _∷_, _++_}
+use mathlib.Core.List.{List, [], _∷_, _++_, append-assoc}
 use mathlib.Core.Logic.{⊎-elim, inl, inr}
 use native.Mathlib.Omega.{arith}
-use lib.ListN.{length, getD, set, length-append, length-replicate, List·getD-append, List·getD-eq-default}
+use lib.ListN.{length, getD, set, replicate, length-append, length-replicate, replicate-append-replicate, List·getD-append, List·getD-eq-default}
 use lib.Seq.{ext-getD, getD-append-add, set-set, set-getD}
 use Rattle.rows.specs.Pad.{below?, pad, pad-length, pad-get, pad-ext, pad-snoc}
 use Rattle.rows.specs.Part.{Off, where?, part, put, part-length, put-length, part-get, put-in, put-out, put-ext, put-put}
@@ -68,19 +68,19 @@ module _ {A : Type 0} (z : A) where
       o)
       (where? (length xs) (length r) j))
 
-  -- zeros at its end are as good as none
-  pub pad-zeros : (size n : ℕ) (xs : List A) → length xs + n ≤ size → pad z size (xs ++ pad z n []) ≡ pad z size xs
+  -- zeros at its end are as good as none,
+  pub pad-zeros : (size n : ℕ) (xs : List A) → length xs + n ≤ size → pad z size (xs ++ replicate n z) ≡ pad z size xs
+  unfolding pad
   pad-zeros size n xs h =
-      let l : length (pad z n []) ≡ n = pad-length z n [] (omega arith) in
-      let m : length (xs ++ pad z n []) ≤ size = simp length-append (omega arith) in
-      pad-ext z size (pad z size (xs ++ pad z n [])) xs (pad-length z size (xs ++ pad z n []) m) (omega arith)
-      (λ j q. pad-get z size (xs ++ pad z n []) j ∙ ⊎-elim
-      (λ (u : j < length xs). List·getD-append xs (pad z n []) z j u)
-      (λ (u : length xs ≤ j).
-      let e : length xs + (j - length xs) ≡ j = omega arith in
-      ap (λ (y : ℕ). getD (xs ++ pad z n []) y z) (sym e) ∙ getD-append-add xs (pad z n []) (j - length xs) z ∙ pad-get z n [] (j - length xs)
-      ∙ List·getD-eq-default [] z {n = j - length xs} (omega arith) ∙ sym (List·getD-eq-default xs z u))
-      (below? j (length xs)))
+      let e : size - length (xs ++ replicate n z) ≡ size - length xs - n = simp (length-append, length-replicate) (omega arith) in
+      let m : n + (size - length xs - n) ≡ size - length xs = omega arith in
+      append-assoc xs (replicate n z) (replicate (size - length (xs ++ replicate n z)) z)
+      ∙ ap (λ (l : List A). xs ++ l) (ap (λ (k : ℕ). replicate n z ++ replicate k z) e ∙ replicate-append-replicate n (size - length xs - n) z ∙ ap (λ (k : ℕ). replicate k z) m)
+
+  -- and zeros with zeros behind them are zeros
+  pub zeros-pad : (size n : ℕ) → n ≤ size → pad z size (replicate n z) ≡ replicate size z
+  unfolding pad
+  zeros-pad size n h = let e : size - 0 ≡ size = omega arith in pad-zeros size n [] (omega arith) ∙ ap (λ (k : ℕ). replicate k z) e
 
   -- its last run is another
   pub pad-last-run : (size : ℕ) (xs r s : List A) → length xs + length r ≤ size → length s ≡ length r → put (length xs) s (pad z size (xs ++ r)) ≡ pad z size (xs ++ s)
@@ -89,6 +89,5 @@ module _ {A : Type 0} (z : A) where
       ap (put (length xs) s) (sym (pad-run size xs r h)) ∙ put-put z (length xs) r s (pad z size xs) (omega arith) e ∙ pad-run size xs s (omega arith)
 
   -- its last run goes
-  pub pad-less-run : (size : ℕ) (xs r : List A) → length xs + length r ≤ size → put (length xs) (pad z (length r) []) (pad z size (xs ++ r)) ≡ pad z size xs
-  pad-less-run size xs r h =
-      pad-last-run size xs r (pad z (length r) []) h (pad-length z (length r) [] (omega arith)) ∙ pad-zeros size (length r) xs h
+  pub pad-less-run : (size : ℕ) (xs r : List A) → length xs + length r ≤ size → put (length xs) (replicate (length r) z) (pad z size (xs ++ r)) ≡ pad z size xs
+  pad-less-run size xs r h = pad-last-run size xs r (replicate (length r) z) h (length-replicate (length r) z) ∙ pad-zeros size (length r) xs h

@@ -7,6 +7,8 @@ use native.Mathlib.Omega.{arith}
 use lib.ListN.{length, getD, take, length-map}
 use lib.Seq.{getD-set-same}
 use Rattle.lists.specs.Lists.{All}
+use Rattle.lists.specs.Facts.{All-map}
+use Rattle.lists.specs.Keep.{map-back}
 use Rattle.rows.specs.Pad.{pad, pad-take}
 use Rattle.rows.specs.Part.{part}
 use Rattle.programs.specs.Sizes.{SPENT}
@@ -43,16 +45,10 @@ withQueues f waiting pairs = record {
   next = f .next;
 }
 
--- numbers that are pairs' are read and written again
-pub numbers-back : (q : List ℕ) → All CanonicalPair q → map pairNumber (map pairOf q) ≡ q
-numbers-back [] h = refl
-numbers-back (x ∷ q) h = rw (h .0, numbers-back q (h .1))
-
 module _ (p : Program) (next : ℕ) (sound : Sound p) (spent : next ≤ SPENT) where
   -- pairs are written and read again
   pub pairs-back : (q : List Pair) → All (PairOk p next) q → map pairOf (map pairNumber q) ≡ q
-  pairs-back [] h = refl
-  pairs-back (x ∷ q) h = rw (pair-back p next sound spent x (h .0), pairs-back q (h .1))
+  pairs-back q h = map-back pairOf pairNumber q (All-map _ _ q (pair-back p next sound spent) h)
 
   -- a pair's number is some pair's
   pub number-canonical : (x : Pair) → PairOk p next x → CanonicalPair (pairNumber x)
@@ -71,7 +67,7 @@ module _ (p : Program) (next : ℕ) (sound : Sound p) (spent : next ≤ SPENT) w
 
     -- is done where ⊙ is,
     pub number-put : (r : List ℕ) → putNumber (map pairNumber q) (pairNumber y) ≡ some r → (put q y ≡ some (map pairOf r)) × (map pairNumber (map pairOf r) ≡ r)
-    number-put r e = (sym meets ∙ ap (Option·map (map pairOf)) e, numbers-back r (put-canonical (map pairNumber q) (pairNumber y) r (numbers-canonical q ok) (number-canonical y fine) e))
+    number-put r e = (sym meets ∙ ap (Option·map (map pairOf)) e, map-back pairNumber pairOf r (put-canonical (map pairNumber q) (pairNumber y) r (numbers-canonical q ok) (number-canonical y fine) e))
 
     -- and refused where ⊙ is
     pub number-refused : putNumber (map pairNumber q) (pairNumber y) ≡ none → put q y ≡ none

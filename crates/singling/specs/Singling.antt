@@ -6,7 +6,7 @@ use mathlib.Core.List.{List, [], _∷_, _++_, append-assoc, append-nil}
 use native.Mathlib.Numerals.{add-one}
 use native.Mathlib.Omega.{arith}
 use lib.ListN.{length, getD, take}
-use lib.Seq.{take-suc, take-all, length-take-le}
+use lib.Seq.{take-suc, take-all}
 use Rattle.lists.specs.Lists.{All, any}
 use Rattle.lists.specs.Check.{Check, isFalse}
 use Rattle.rows.specs.Seek.{table-get}
@@ -17,7 +17,7 @@ use Rattle.soundness.specs.Lines.{numbered-all, step-meets, call-meets, act-mee
 use Rattle.tables.specs.Decode.{moveIn, movesOf}
 use Rattle.index.specs.Saying.{moves-cut}
 use Rattle.faults.specs.declared.Counts.{Counts}
-use Rattle.faults.specs.Faults.{onward, joined, lineFault, rowFault, movesFault, joined-none, joined-last, onward-onward, rows-then, fault-nothing}
+use Rattle.faults.specs.Faults.{onward, joined, rowFault, rows-more, at-place, movesFault, joined-none, joined-last, onward-onward, fault-nothing}
 use Rattle.faults.specs.Read.{Counted, Moving, noMove, states-fault-is, fault-is, moves-fault-is}
 use Rattle.singling.specs.Marking.{same, Low, low, low-is, Marked, Marking}
 
@@ -25,23 +25,6 @@ use Rattle.singling.specs.Marking.{same, Low, low, low-is, Marked, Marki
 -- what is asked of number n of the moves ms, behind the moves l: that none before it is for its state and event. (Of one that has no flag nothing is asked.)
 abbrev pub double : List Move → List Move → ℕ → Move → Check
 double l ms n t = isFalse (low t && any (same t) (l ++ take (n - 1) ms))
-
--- rows of which one more is numbered
-numbered-last : {A : Type 0} (f : ℕ → A → Check) (n : ℕ) (l : List A) (x : A) → numbered f n (l ++ (x ∷ [])) ≡ numbered f n l ++ (f (n + length l) x ∷ [])
-numbered-last f n [] x = let e : n ≡ n + 0 = omega arith in ap (λ (k : ℕ). f k x ∷ []) e
-numbered-last f n (y ∷ l) x =
-    let e : suc n + length l ≡ n + suc (length l) = omega arith in
-    ap (λ (m : List Check). f n y ∷ m) (numbered-last f (suc n) l x ∙ ap (λ (k : ℕ). numbered f (suc n) l ++ (f k x ∷ [])) e)
-
--- the first fault of the first i + 1 rows
-fault-more : {A : Type 0} (f : ℕ → A → Check) (d : A) (l : List A) (i : ℕ) → i < length l
-    → rowFault f (take (i + 1) l) ≡ joined (rowFault f (take i l)) i (lineFault (f (i + 1) (getD l i d)))
-fault-more f d l i h =
-    let n : length (take i l) ≡ i = length-take-le i l (omega arith) in
-    let e : 1 + i ≡ i + 1 = omega arith in
-    let m : numbered f 1 (take (i + 1) l) ≡ numbered f 1 (take i l) ++ (f (1 + length (take i l)) (getD l i d) ∷ []) =
-    rw (add-one, take-suc l i d h) (numbered-last f 1 (take i l) (getD l i d)) in
-    ap (firstFault 1) m ∙ rows-then f (take i l) (f (1 + length (take i l)) (getD l i d) ∷ []) ∙ rw (n, e)
 
 -- the move in place i of those from row a on
 pub moves-get : (moves : List ℕ) (a n i : ℕ) → i < min n (4096 - a) → getD (movesOf moves a n) i noMove ≡ moveIn moves (a + i)
@@ -63,7 +46,7 @@ pub doubling-more : (l ms : List Move) (i first r next : ℕ) (seen after : List
 doubling-more l ms i first r next seen after h d m j =
     let z : i + 1 - 1 ≡ i = omega arith in
     record {
-      fault = j ∙ rw (d .fault, m .was) (sym (fault-more (double l ms) noMove ms i h ∙ rw z (ap (joined (rowFault (double l ms) (take i ms)) i) (turn (low (getD ms i noMove) && any (same (getD ms i noMove)) (l ++ take i ms))))));
+      fault = j ∙ rw (d .fault, m .was) (sym (rows-more (double l ms) noMove ms i h ∙ rw (at-place noMove ms i, z) (ap (joined (rowFault (double l ms) (take i ms)) i) (turn (low (getD ms i noMove) && any (same (getD ms i noMove)) (l ++ take i ms))))));
       marked = rw (add-one, take-suc ms i noMove h, ← append-assoc l (take i ms) (getD ms i noMove ∷ [])) (m .marked);
     }
   where

@@ -1,13 +1,14 @@
 -- A program is orderly where no variable is void and every init list is ascending: what its states defer always is.
 use Prim.Native.Nat.{ℕ, zero, suc, _+_}
 use mathlib.Core.Path.{_≡_, refl, ap, _∙_}
-use mathlib.Core.Bool.{Bool, true, false, _&&_}
+use mathlib.Core.Bool.{Bool, true, _&&_}
 use mathlib.Core.List.{List}
 use native.Mathlib.Omega.{arith}
 use borrow.Author.Tests.{ne-eqb}
 use lib.Dec.{eqb}
 use lib.ListN.{length}
 use Rattle.lists.specs.Lists.{at, There}
+use Rattle.lists.specs.Facts.{and-true}
 use Rattle.programs.specs.Program.{Program, State}
 use Rattle.tables.specs.Decode.{noState, stateIn, statesOf}
 use Rattle.tables.specs.Numbered.{at-row}
@@ -26,11 +27,6 @@ onward-zero n (suc b) = rw (onward-some n (suc b) (omega arith), ne-eqb (suc b) 
 joined-zero : (a n b : ℕ) → eqb (joined a n b) 0 ≡ eqb a 0 && eqb b 0
 joined-zero zero n b = rw (joined-none n b) (onward-zero n b)
 joined-zero (suc a) n b = rw (joined-some (suc a) n b (omega arith), ne-eqb (suc a) 0 (λ z. omega arith))
-
--- a test that always passes
-and-true : (a b : Bool) → b ≡ true → a && b ≡ a
-and-true true b h = h
-and-true false b h = refl
 
 module _ (p : Program) (states entries exits flags : List ℕ) (e : p .states ≡ statesOf states entries exits flags) where
   -- what state n defers is ascending

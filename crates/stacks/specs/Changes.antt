@@ -1,14 +1,13 @@
 -- What the stores of src/lib.rt leave of a room's call stack: the frame on top popped, in another state, or with a frame called from it.
-use Prim.Native.Nat.{ℕ, _+_, _-_, _*_, _≤_, _<_}
+use Prim.Native.Nat.{ℕ, _+_, _-_, _*_, _<_}
 use mathlib.Core.Path.{_≡_, ap, sym, _∙_}
 use mathlib.Core.List.{List, [], _∷_, _++_, map, reverse, reverse-cons}
 use native.Mathlib.Omega.{arith}
-use lib.ListN.{length, getD, set, length-map, length-reverse, length-set}
+use lib.ListN.{length, getD, set, replicate, length-map, length-replicate, length-reverse, length-set}
 use lib.Seq.{getD-set-same}
 use Rattle.lists.specs.Lists.{All, flat}
-use Rattle.rows.specs.Pad.{pad, pad-length, pad-get, pad-snoc}
+use Rattle.rows.specs.Pad.{pad, pad-snoc}
 use Rattle.rows.specs.Part.{part, put, put-length, row-set}
-use Rattle.rows.specs.Fill.{filled, filled-none, filled-more, filled-all}
 use Rattle.programs.specs.Program.{Program}
 use Rattle.machines.specs.Config.{Reply, Frame}
 use Rattle.machines.specs.Maps.{callMap}
@@ -68,23 +67,23 @@ module _ (k : ℕ) (depths states maps : List ℕ) (p : Program) (f : Frame) (γ
       ∙ ap (λ (d : ℕ). set (pad 0 8 (statesOf γ ++ f .state ∷ [])) d v) e
 
   -- POPPED
-  pub pop-held : StackHeld k (set depths k (getD depths k 0 - 1)) (set states (k * 8 + (getD depths k 0 - 1)) 0) (put (k * 512 + (getD depths k 0 - 1) * 64) (pad 0 64 []) maps) γ
+  pub pop-held : StackHeld k (set depths k (getD depths k 0 - 1)) (set states (k * 8 + (getD depths k 0 - 1)) 0) (put (k * 512 + (getD depths k 0 - 1) * 64) (replicate 64 0) maps) γ
   pop-held =
       let s = shallow k depths states maps f γ h in
-      let zeros : length (pad {A = ℕ} 0 64 []) ≡ 64 = pad-length 0 64 [] (omega arith) in
+      let zeros : length (replicate {A = ℕ} 64 0) ≡ 64 = length-replicate {A = ℕ} 64 0 in
       let top : getD depths k 0 - 1 ≡ length γ = top-is k depths states maps f γ h in
       let e : (getD depths k 0 - 1) * 64 ≡ length (mapsOf γ) = omega (arith, below) in
       record {
         rooms = length-set depths k (getD depths k 0 - 1) ∙ h .rooms;
         states-256 = length-set states (k * 8 + (getD depths k 0 - 1)) 0 ∙ h .states-256;
-        maps-16384 = put-length (k * 512 + (getD depths k 0 - 1) * 64) (pad 0 64 []) maps (omega (arith, h .maps-16384, h .room)) ∙ h .maps-16384;
+        maps-16384 = put-length (k * 512 + (getD depths k 0 - 1) * 64) (replicate 64 0) maps (omega (arith, h .maps-16384, h .room)) ∙ h .maps-16384;
         room = h .room;
         depth = depth-set (getD depths k 0 - 1) ∙ top;
         state-row = state-set 0 ∙ pad-less 0 8 (statesOf γ) (f .state) (omega (arith, states-length γ));
-        map-row = part-put-inside 0 (k * 512) 512 ((getD depths k 0 - 1) * 64) (pad 0 64 []) maps (omega arith) (omega (arith, h .maps-16384, h .room))
-            ∙ ap (put ((getD depths k 0 - 1) * 64) (pad 0 64 [])) (h .map-row ∙ ap (pad 0 512) (maps-more f γ))
-            ∙ ap (λ (d : ℕ). put d (pad 0 64 []) (pad 0 512 (mapsOf γ ++ mapCodes f))) e
-            ∙ ap (λ (n : ℕ). put (length (mapsOf γ)) (pad 0 n []) (pad 0 512 (mapsOf γ ++ mapCodes f))) (sym own)
+        map-row = part-put-inside 0 (k * 512) 512 ((getD depths k 0 - 1) * 64) (replicate 64 0) maps (omega arith) (omega (arith, h .maps-16384, h .room))
+            ∙ ap (put ((getD depths k 0 - 1) * 64) (replicate 64 0)) (h .map-row ∙ ap (pad 0 512) (maps-more f γ))
+            ∙ ap (λ (d : ℕ). put d (replicate 64 0) (pad 0 512 (mapsOf γ ++ mapCodes f))) e
+            ∙ ap (λ (n : ℕ). put (length (mapsOf γ)) (replicate n 0) (pad 0 512 (mapsOf γ ++ mapCodes f))) (sym own)
             ∙ pad-less-run 0 512 (mapsOf γ) (mapCodes f) (omega (arith, own, below));
       }
 
@@ -156,14 +155,14 @@ module _ (k : ℕ) (depths states maps : List ℕ) (p : Program) (f : Frame) (γ
 -- WHAT THE FUNCTIONS LEAVE
 module _ (k : ℕ) (depths states maps : List ℕ) (a : Deep k depths states maps) where
   -- pop_frame
-  pub pop-leaves : (maps' : List ℕ) → maps' ≡ put (k * 512 + (getD depths k 0 - 1) * 64) (pad 0 64 []) maps
+  pub pop-leaves : (maps' : List ℕ) → maps' ≡ put (k * 512 + (getD depths k 0 - 1) * 64) (replicate 64 0) maps
       → StackBecomes k depths states maps Any popped (set depths k (getD depths k 0 - 1)) (set states (k * 8 + (getD depths k 0 - 1)) 0) maps'
   pop-leaves maps' q = rw q (
-      let zeros : length (pad {A = ℕ} 0 64 []) ≡ 64 = pad-length 0 64 [] (omega arith) in
+      let zeros : length (replicate {A = ℕ} 64 0) ≡ 64 = length-replicate {A = ℕ} 64 0 in
       record {
         depths-off = touched-place k (getD depths k 0 - 1) depths;
         states-off = touched k 8 (getD depths k 0 - 1) 0 states (omega arith);
-        maps-off = touched-run k 512 ((getD depths k 0 - 1) * 64) (pad 0 64 []) maps (omega arith) (omega arith);
+        maps-off = touched-run k 512 ((getD depths k 0 - 1) * 64) (replicate 64 0) maps (omega arith) (omega arith);
         becomes = λ p _ f γ fr h. pop-held k depths states maps p f γ fr h;
       })
 
@@ -195,23 +194,3 @@ call-leaves says kinds flags k events depths states maps a n maps' q =
       maps-off = rw o (touched-run k 512 ((getD depths k 0 - 1) * 64 + 64) _ maps (omega (arith, l, a .left)) (omega arith));
       becomes = λ p c f γ fr h. call-held k depths states maps p f γ fr h n maps' (omega (arith, h .depth, a .left)) (q p (c .entries) (c .exits) (c .tables) (c .counted));
     }
-
--- THE LOOP that clears a map
-module _ (maps₀ : List ℕ) (b : ℕ) (inside : b + 64 ≤ length maps₀) where
-  -- 64 zeros
-  zeros-length : length (pad {A = ℕ} 0 64 []) ≡ 64
-  zeros-length = pad-length 0 64 [] (omega arith)
-
-  -- before it
-  pub clear-none : maps₀ ≡ filled b 64 (pad 0 64 []) maps₀ 0
-  clear-none = filled-none 0 b 64 (pad 0 64 []) maps₀ inside zeros-length
-
-  -- one place more
-  pub clear-more : (maps : List ℕ) (e : ℕ) → e < 64 → maps ≡ filled b 64 (pad 0 64 []) maps₀ e → set maps (b + e) 0 ≡ filled b 64 (pad 0 64 []) maps₀ (e + 1)
-  clear-more maps e h inv =
-      let z : _≡_ {A = ℕ} (getD (pad 0 64 []) e 0) 0 = pad-get 0 64 [] e in
-      rw inv (rw z at (filled-more 0 b 64 (pad 0 64 []) maps₀ inside zeros-length e h))
-
-  -- after it
-  pub clear-all : (maps : List ℕ) (e : ℕ) → 64 ≤ e → maps ≡ filled b 64 (pad 0 64 []) maps₀ e → maps ≡ put b (pad 0 64 []) maps₀
-  clear-all maps e h inv = inv ∙ filled-all 0 b 64 (pad 0 64 []) maps₀ inside zeros-length e h

@@ -3,10 +3,9 @@
 use maps::call_map;
 use tables::Program;
 ghost use mathlib.Core.Path.{_≡_};
-ghost use mathlib.Core.List.{List, []};
+ghost use mathlib.Core.List.{List};
 ghost use Prim.Native.Nat.{ℕ, _+_, _≤_};
-ghost use lib.ListN.{length};
-ghost use Rattle.rows.specs.Pad.{pad};
+ghost use lib.ListN.{length, replicate};
 ghost use Rattle.rows.specs.Part.{put};
 ghost use Rattle.parts.specs.Parts.{Any};
 ghost use Rattle.stacks.specs.Stacks.{Deep, Callable, CallAsked, StackBecomes, popped, stepped, entered};
@@ -14,7 +13,7 @@ ghost use Rattle.stacks.specs.Stacks.{Deep, Callable, CallAsked, StackBe
 // Zeros in the 64 places from b on.
 fn clear_map(maps: &mut [u8; Program::ROOMS * Program::STACK * Program::EVENTS], b: usize)
     requires { ⌜ (length (now maps) ≡ 16384) × (b + 64 ≤ 16384) ⌝ }
-    ensures { λ _. ⌜ now (maps .exit) ≡ put b (pad 0 64 []) (now (maps .entry)) ⌝ }
+    ensures { λ _. ⌜ now (maps .exit) ≡ put b (replicate 64 0) (now (maps .entry)) ⌝ }
 {
     let mut e: usize = 0;
     while e < Program::EVENTS {

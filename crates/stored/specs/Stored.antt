@@ -17,7 +17,7 @@ use Rattle.rows.specs.Part.{part, part-get, row-set}
 use Rattle.values.specs.declared.Value.{Value}
 use Rattle.values.specs.declared.Value.the-variants.{Undefined as undefined, Event as vevent}
 use Rattle.values.specs.Values.{idOf}
-use Rattle.programs.specs.Program.{Program, Variable, stmtAt, variableAt, variablesOf, isOf, place}
+use Rattle.programs.specs.Program.{Program, stmtAt, variableAt, variablesOf, isOf, place}
 use Rattle.programs.specs.Statements.{exprsOf, serves}
 use Rattle.programs.specs.Trees.{tree, stars}
 use Rattle.soundness.specs.Asked.{refers}
@@ -28,7 +28,8 @@ use Rattle.machines.specs.Config.{Machine}
 use Rattle.machines.specs.Eval.{storeOf, eval}
 use Rattle.machines.specs.Locals.{sets, told}
 use Rattle.machines.specs.Rooms.{setLocal}
-use Rattle.acceptance.specs.Accepted.{ValueOk, TypedAll, PartOk}
+use Rattle.acceptance.specs.Accepted.{ValueOk, PartOk}
+use Rattle.acceptance.specs.Typed.{typed-length, typed-values}
 use Rattle.kept.specs.KeptValue.{value-ok}
 use Rattle.codes.specs.Codes.{codeOf, valueOf, Holdable, Canonical}
 use Rattle.codes.specs.Laws.{value-code, code-small, code-canonical}
@@ -100,21 +101,6 @@ module _ (p : Program) (sound : Sound p) (places : List ℕ) (here : Places p pl
   places-small = all-places (λ n. n < 16) places (λ i h. place-16 i)
 
 -- THE VALUES OF A MACHINE
-module _ (p : Program) (next : ℕ) where
-  -- a value for each variable
-  typed-length : (xs : List Variable) (vs : List Value) → TypedAll p next xs vs → length vs ≡ length xs
-  typed-length [] [] h = refl
-  typed-length [] (v ∷ vs) h = absurd h
-  typed-length (x ∷ xs) [] h = absurd h
-  typed-length (x ∷ xs) (v ∷ vs) h = ap suc (typed-length xs vs (h .1))
-
-  -- each of them one
-  typed-ok : (xs : List Variable) (vs : List Value) → TypedAll p next xs vs → All (ValueOk p next) vs
-  typed-ok [] [] h = tt
-  typed-ok [] (v ∷ vs) h = absurd h
-  typed-ok (x ∷ xs) [] h = absurd h
-  typed-ok (x ∷ xs) (v ∷ vs) h = (h .0 .0, typed-ok xs vs (h .1))
-
 module _ (p : Program) (f : Flat) (k : ℕ) (m : Machine) (sound : Sound p) (s : Stands p f k m) where
   -- as many as its kind has variables,
   pub variables-count : length (m .loc .variables) ≡ length (variablesOf p (m .loc .kind))
@@ -156,7 +142,7 @@ module _ (p : Program) (f : Flat) (k : ℕ) (m : Machine) (sound : Sound p) (s :
 
   -- a variable's value is one
   variable-ok : (j : ℕ) → ValueOk p (f .next) (getD (m .loc .variables) j undefined)
-  variable-ok j = All-getD (ValueOk p (f .next)) undefined (m .loc .variables) j tt (typed-ok p (f .next) (variablesOf p (m .loc .kind)) (m .loc .variables) (s .ok .loc-ok .vars))
+  variable-ok j = All-getD (ValueOk p (f .next)) undefined (m .loc .variables) j tt (typed-values p (f .next) (variablesOf p (m .loc .kind)) (m .loc .variables) (s .ok .loc-ok .vars))
 
   -- and so is `this`
   this-ok : ValueOk p (f .next) (idOf (m .this))

@@ -16,7 +16,7 @@ use Rattle.configs.specs.Flat.{Flat, room-path}
 use Rattle.parts.specs.Parts.{tidied, awaits}
 use Rattle.engine.specs.Engine.{Changed}
 use Rattle.engine.specs.Holding.{Elsewhere, RowBecomes, untouched, touched-place}
-use Rattle.remaining.specs.Held.{changed}
+use Rattle.remaining.specs.Held.{withPending, changed}
 use Rattle.statements.specs.Heading.{RowAsked, row-kept, row-then}
 
 -- the local part with other values
@@ -40,10 +40,14 @@ withStored f values counts parts held = record {
   next = f .next;
 }
 
+-- what is stored is what was there
+pub same-stored : (f : Flat) {values counts parts held : List ℕ} → f .values ≡ values → f .counts ≡ counts → f .parts ≡ parts → f .held ≡ held → withStored f values counts parts held ≡ f
+same-stored f v c p h = λ i. withStored f (sym v i) (sym c i) (sym p i) (sym h i)
+
 module _ {k : ℕ} {t : Stmt} {counts parts held : List ℕ} (a : RowAsked k t counts parts held) where
   -- the lists as they are
   pub stored-same : {values : List ℕ} → a .f .values ≡ values → withStored (a .f) values counts parts held ≡ a .f
-  stored-same e = λ i. withStored (a .f) (sym e i) (sym (a .counts-are) i) (sym (a .parts-are) i) (sym (a .held-are) i)
+  stored-same e = same-stored (a .f) e (a .counts-are) (a .parts-are) (a .held-are)
 
   module _ {Of : Program → Type 0} (g : Program → List ℕ → List ℕ) {counts' parts' values' : List ℕ} (b : Bool)
       (row : RowBecomes k counts parts Of (λ p r. tidied b p (g p r)) counts' parts') (of : Of (a .p))
@@ -52,10 +56,11 @@ module _ {k : ℕ} {t : Stmt} {counts parts held : List ℕ} (a : RowAsked k t c
     own : RowBecomes k (a .f .counts) (a .f .parts) Of (λ p r. tidied b p (g p r)) counts' parts'
     own = rw (a .counts-are, a .parts-are) row
 
-    -- WHAT IS PENDING STAYS
-    pub stored-kept : b ≡ not (eqb (getD held k 0) 0)
-        → Changed (a .f) k (setLocal (remains (a .p) (g (a .p) (a .heading .s ∷ a .heading .r)) (a .m .loc .pending) (valued vs x y (a .m .loc))) (a .m)) (withStored (a .f) values' counts' parts' held)
-    stored-kept e = let h = row-kept a g b e row of .holds in rw (← a .held-are) (changed (a .f) k _ (withStored (a .f) values' counts' parts' (a .f .held)) (a .heading .stands .sized) (record {
+    -- a change of the row with the stores beside it
+    stored-over : (q : Pending) (r : List ℕ) {held' : List ℕ} → Elsewhere k 1 (a .f .held) held'
+        → Changed (a .f) k (setLocal (remains (a .p) r q (a .m .loc)) (a .m)) (withPending (a .f) counts' parts' held')
+        → Changed (a .f) k (setLocal (remains (a .p) r q (valued vs x y (a .m .loc))) (a .m)) (withStored (a .f) values' counts' parts' held')
+    stored-over q r {held'} o c = let h = c .holds in changed (a .f) k _ (withStored (a .f) values' counts' parts' held') (a .heading .stands .sized) (record {
       ids = untouched;
       kinds = untouched;
       depths = untouched;
@@ -64,28 +69,19 @@ module _ {k : ℕ} {t : Stmt} {counts parts held : List ℕ} (a : RowAsked k t c
       values = off;
       counts = own .counts-off;
       parts = own .parts-off;
-      held = untouched;
-      waiting = untouched;
-      pairs = untouched;
-      next = refl;
-    }) (room-path (ap (λ r. r .this .0) h) (ap (λ r. r .kind .0) h) (ap (λ r. r .depth) h) (ap (λ r. r .states) h) (ap (λ r. r .maps) h) store
-        (ap (λ r. r .count) h) (ap (λ r. r .parts) h) (ap (λ r. r .held) h) (ap (λ r. r .waiting) h) (ap (λ r. r .pairs) h)))
-
-    -- q IS PENDING
-    pub stored-then : (q : Pending) → b ≡ awaits q
-        → Changed (a .f) k (setLocal (remains (a .p) (g (a .p) (a .heading .s ∷ a .heading .r)) q (valued vs x y (a .m .loc))) (a .m)) (withStored (a .f) values' counts' parts' (set held k (heldCode q)))
-    stored-then q e = let h = row-then a g b q e row of .holds in changed (a .f) k _ (withStored (a .f) values' counts' parts' (set held k (heldCode q))) (a .heading .stands .sized) (record {
-      ids = untouched;
-      kinds = untouched;
-      depths = untouched;
-      states = untouched;
-      maps = untouched;
-      values = off;
-      counts = own .counts-off;
-      parts = own .parts-off;
-      held = rw (a .held-are) (touched-place k (heldCode q) held);
+      held = o;
       waiting = untouched;
       pairs = untouched;
       next = refl;
     }) (room-path (ap (λ r. r .this .0) h) (ap (λ r. r .kind .0) h) (ap (λ r. r .depth) h) (ap (λ r. r .states) h) (ap (λ r. r .maps) h) store
         (ap (λ r. r .count) h) (ap (λ r. r .parts) h) (ap (λ r. r .held) h) (ap (λ r. r .waiting) h) (ap (λ r. r .pairs) h))
+
+    -- WHAT IS PENDING STAYS
+    pub stored-kept : b ≡ not (eqb (getD held k 0) 0)
+        → Changed (a .f) k (setLocal (remains (a .p) (g (a .p) (a .heading .s ∷ a .heading .r)) (a .m .loc .pending) (valued vs x y (a .m .loc))) (a .m)) (withStored (a .f) values' counts' parts' held)
+    stored-kept e = rw (← a .held-are) (stored-over (a .m .loc .pending) (g (a .p) (a .heading .s ∷ a .heading .r)) untouched (row-kept a g b e row of))
+
+    -- q IS PENDING
+    pub stored-then : (q : Pending) → b ≡ awaits q
+        → Changed (a .f) k (setLocal (remains (a .p) (g (a .p) (a .heading .s ∷ a .heading .r)) q (valued vs x y (a .m .loc))) (a .m)) (withStored (a .f) values' counts' parts' (set held k (heldCode q)))
+    stored-then q e = stored-over q (g (a .p) (a .heading .s ∷ a .heading .r)) (rw (a .held-are) (touched-place k (heldCode q) held)) (row-then a g b q e row of)

@@ -1,17 +1,17 @@
 -- Laws of the tables as they are read: what the accessors' contracts say is what the definitions say of the program; how long the tables are; a
 -- statement's head; what a state defers.
-use Prim.Native.Nat.{ℕ, zero, suc, _+_, _*_, _≤_, _<_}
-use mathlib.Core.Path.{_≡_, refl, _∙_}
+use Prim.Native.Nat.{ℕ, zero, suc, _+_, _-_, _*_, _≤_, _<_, min}
+use mathlib.Core.Path.{_≡_, refl, ap, _∙_}
 use mathlib.Core.Logic.{_⊎_, inl, inr, ⊎-elim}
 use mathlib.Core.Bool.{Bool, true, false}
-use mathlib.Core.List.{List, _∷_}
+use mathlib.Core.List.{List, _∷_, map}
 use native.Mathlib.Omega.{arith}
 use borrow.Author.Tests.{eqb-true, eqb-false, ne-eqb}
 use lib.Dec.{eqb}
-use lib.ListN.{length, length-map, List·getD-map}
+use lib.ListN.{length, getD, length-map, List·getD-map}
 use Rattle.lists.specs.Lists.{at, push, keep, any}
 use Rattle.lists.specs.Facts.{eqb-same}
-use Rattle.rows.specs.Seek.{table, table-length}
+use Rattle.rows.specs.Seek.{table, table-length, table-get}
 use Rattle.programs.specs.Sizes.{KINDS, EVENTS, VARIABLES, EXPRS, STMTS, ACTIONS, STATES}
 use Rattle.programs.specs.Program.{skip, eventType, variableAt, exprAt, stmtAt, Body, Entry, Exit, Deferred}
 use Rattle.values.specs.declared.Ty.the-variants.{Void as void}
@@ -20,7 +20,7 @@ use Rattle.programs.specs.declared.Expr.the-variants.{Leaf as leaf}
 use Rattle.tables.specs.declared.Head.the-variants.{Skip}
 use Rattle.tables.specs.declared.Program.{Program as Tables}
 use Rattle.tables.specs.Decode.{count, eventsOf, noVariable, variablesOf, exprsOf, headsOf, headAt, stmtOf, stmtsOf}
-use Rattle.tables.specs.Decode.{noAction, actionsOf, flag, deferOf, noState, statesOf, programOf}
+use Rattle.tables.specs.Decode.{pairIn, pairsOf, noAction, actionsOf, flag, deferOf, noState, statesOf, programOf}
 
 -- STATEMENTS
 -- statement s is its head with the init list
@@ -92,6 +92,30 @@ actions-length kinds bodies = table-length _ 1 _
 pub states-length : (kinds entries exits flags : List ℕ) → length (statesOf kinds entries exits flags) ≡ count STATES kinds
 unfolding statesOf
 states-length kinds entries exits flags = table-length _ 1 _
+
+-- INIT LISTS
+-- for a pair that is absent
+abbrev pub noPair : ℕ × ℕ
+noPair = (0, 0)
+
+module _ (inits : List ℕ) (i n : ℕ) where
+  -- as many pairs as the pool has from place i on
+  pub pairs-length : length (pairsOf inits i n) ≡ min n (EXPRS - i)
+  unfolding pairsOf
+  pairs-length = table-length (pairIn inits) i (min n (EXPRS - i))
+
+  -- the one in place j
+  pub pairs-get : (j : ℕ) → j < min n (EXPRS - i) → getD (pairsOf inits i n) j noPair ≡ pairIn inits (i + j)
+  unfolding pairsOf
+  pairs-get j h = table-get (pairIn inits) noPair i (min n (EXPRS - i)) j h
+
+  -- What a function reads off the pairs: as many,
+  pub column-length : (f : ℕ × ℕ → ℕ) → length (map f (pairsOf inits i n)) ≡ min n (EXPRS - i)
+  column-length f = length-map (pairsOf inits i n) f ∙ pairs-length
+
+  -- and the one of the pair in place j.
+  pub column-get : (f : ℕ × ℕ → ℕ) (j : ℕ) → j < min n (EXPRS - i) → getD (map f (pairsOf inits i n)) j (f noPair) ≡ f (pairIn inits (i + j))
+  column-get f j h = List·getD-map f (pairsOf inits i n) j noPair ∙ ap f (pairs-get j h)
 
 -- WHAT A STATE DEFERS
 module _ (p : ℕ → Bool) (e : ℕ) where

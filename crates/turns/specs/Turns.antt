@@ -1,25 +1,22 @@
 -- The turn of a pending raise of event e in the frame (n, α): as the definitions have it, by the numbers of the tables, and the act that it is.
-use Prim.Native.Nat.{ℕ, zero, suc, _+_, _-_, _≤_}
-use mathlib.Core.Path.{_≡_, refl, ap, _∙_}
+use Prim.Native.Nat.{ℕ, _+_, _-_, _≤_}
+use mathlib.Core.Path.{_≡_, refl}
 use mathlib.Core.Option.{Option, none, some}
 use mathlib.Core.Bool.{Bool, true, false, cond}
 use mathlib.Core.List.{List}
 use native.Mathlib.Omega.{arith}
 use borrow.Author.Tests.{eq-eqb, ne-eqb}
 use lib.Dec.{eqb}
-use lib.ListN.{length, take, getD, List·getD-map}
-use lib.Seq.{getD-take}
-use Rattle.lists.specs.Lists.{onOpt, There}
-use Rattle.rows.specs.Part.{part, part-get}
+use lib.ListN.{length, getD}
+use Rattle.lists.specs.Lists.{onOpt}
 use Rattle.values.specs.declared.Value.{Value}
-use Rattle.programs.specs.Sizes.{EVENTS}
 use Rattle.programs.specs.Program.{Program, Step, Call, ActionOf}
 use Rattle.machines.specs.Config.{Reply, action, deferred, nothing, Frame, raising, Local}
 use Rattle.machines.specs.Maps.{isAction, entryAt}
 use Rattle.rules.specs.Act.{Act, stepping, calling, acting, popping, pends}
 use Rattle.index.specs.Index.{saidAt, orZero}
 use Rattle.configs.specs.Decode.{replyOf}
-use Rattle.maps.specs.Maps.{Moves, Asked, mapAt}
+use Rattle.maps.specs.Maps.{Moves, Asked, mapAt, entry-at}
 use Rattle.turns.specs.declared.Turn.{Turn}
 use Rattle.turns.specs.declared.Turn.the-variants.{Step as stepTo, Call as callTo, Act as doAct, Pop as popIt}
 
@@ -63,14 +60,6 @@ by-entry x = go (eqb x 0) (eqb x 255)
     go false true = refl
     go false false = refl
 
--- the entry of event e
-entry-of : (p : Program) (b : ℕ) (maps : List ℕ) (e : ℕ) → There (length (p .events)) e → e ≤ EVENTS → entryAt (mapAt p b maps) e ≡ replyOf (getD maps (b + (e - 1)) 0)
-entry-of p b maps zero h k = absurd (omega arith)
-entry-of p b maps (suc e) h k =
-    let q : suc e - 1 ≡ e = omega arith in
-    rw q (List·getD-map replyOf (take (length (p .events)) (part b EVENTS maps)) e 0
-    ∙ ap replyOf (getD-take (length (p .events)) (part b EVENTS maps) e 0 (omega arith) ∙ part-get b EVENTS maps e 0 (omega arith)))
-
 -- THE TURN, by the numbers
 pub turn-is : (p : Program) (says maps : List ℕ) (l : Moves p says) (b n e : ℕ) (q : Asked b n e) → e ≤ length (p .events)
     → turnOf p n (mapAt p b maps) e
@@ -83,7 +72,7 @@ pub turn-is : (p : Program) (says maps : List ℕ) (l : Moves p says) (b n e : �
     (stepTo (getD says (saidAt n e) 0))
 turn-is p says maps l b n e q h =
     rw (
-      entry-of p b maps e (q .from-1, h) (q .event),
+      entry-at p b maps e (q .from-1, h) (q .event),
       by-entry (getD maps (b + (e - 1)) 0),
       by-number (ActionOf p n e) (getD says (saidAt n e + 2) 0) _ doAct (l .told .act n e (q .state) (q .event)) (λ a z. l .act-there n e a z .0),
       by-number (Call p n e) (getD says (saidAt n e + 1) 0) _ callTo (l .told .call n e (q .state) (q .event)) (l .call-from-1 n e),

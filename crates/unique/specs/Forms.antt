@@ -12,9 +12,9 @@ use Rattle.tables.specs.declared.Kind.{Kind}
 
 -- CONTRACTS `r ≡ definition of the arguments`: values (checked, apply1, apply2, suits, int_of), codes (code, value_of, canonical), tables (the counts and
 -- every look-up but the three of a kind), terms (expr_at, stmt_at), numbers (number), evaluation (eval), queues (room_for), lifting (lift), soundly (sound),
--- beginnings (initial_state), storing (number), owning (top_state, top_map), naming (there, both), doubling (either), faults (rows_from, row_after), fronts
--- (line_behind, term_line), marks (pairs_from); copies (copy_u8, copy_u16, copy_u64) and marks (mark_low, mark_inner) of what they were lent. Where a bound
--- stands beside the equation (faults: onward, joined; fronts: front) the equation alone decides
+-- beginnings (initial_state), storing (number), owning (top_state, top_map), naming (there, both), doubling (either), faults (rows_from, row_after), marks
+-- (pairs_from); copies (copy_u8, copy_u16, copy_u64) and marks (mark_low, mark_inner) of what they were lent. Where a bound
+-- stands beside the equation (faults: onward, joined, front) the equation alone decides
 pub one-result : {A : Type 0} (definition r s : A) → r ≡ definition → s ≡ definition → r ≡ s
 one-result definition r s p q = p ∙ sym q
 
@@ -22,7 +22,7 @@ one-result definition r s p q = p ∙ sym q
 pub kind-one : (n : ℕ) (r s : Kind) → r .0 ≡ n → s .0 ≡ n → r ≡ s
 kind-one n r s p q = λ i. record { 0 = (p ∙ sym q) i }
 
--- CONTRACTS `Tells r P`: zeros (zero_u8, zero_u16, zero_u64), checked_values (zero_u64), admitting (admitted)
+-- CONTRACTS `Tells r P`: zeros (zero_u8, zero_u16, zero_u64), admitting (admitted)
 pub decided-one : (P : Type 0) (r s : Bool) → Tells r P → Tells s P → r ≡ s
 decided-one P r s = agree r s
 

@@ -9,10 +9,6 @@ use lib.Dec.{eqb}
 use lib.ListN.{length, getD}
 use Rattle.lists.specs.Tells.{Tells, form, equal}
 
--- what holds of each number below n, and of n, holds of each below n + 1
-pub each-more : (P : ℕ → Type 0) (n : ℕ) → ((k : ℕ) → k < n → P k) → P n → (k : ℕ) → k < n + 1 → P k
-each-more P n h p k b = dite (ℕ-discrete k n) (λ e. rw e p) (λ e. h k (omega arith))
-
 -- A RUN OF ZEROS
 -- the places from `from` on, up to `to`
 pub record Run (xs : List ℕ) (from to : ℕ) : Type 0 where
@@ -30,35 +26,33 @@ pub record Seen (xs : List ℕ) (from to most k : ℕ) : Type 0 where
   pub so-far : most ≡ 0 → Zeros from k xs
   pub back : Zeros from k xs → most ≡ 0
 
-module _ (xs : List ℕ) (from to : ℕ) where
-  -- before the first turn
-  pub seen-none : from ≤ to → Seen xs from to 0 from
-  seen-none h = record { low = omega arith; high = h; so-far = λ e k a b. absurd (omega arith); back = λ z. refl }
+-- before the first turn
+pub seen-none : {xs : List ℕ} {from to : ℕ} → Run xs from to → Seen xs from to 0 from
+seen-none r = record { low = omega arith; high = r .ordered; so-far = λ e k a b. absurd (omega arith); back = λ z. refl }
 
-  module _ (most k : ℕ) (below : k < to) (seen : Seen xs from to most k) where
-    -- one more place
-    more : getD xs k 0 ≡ 0 → Zeros from k xs → Zeros from (k + 1) xs
-    more e z j a b = dite (ℕ-discrete j k) (λ q. rw q e) (λ q. z j a (omega arith))
+module _ {xs : List ℕ} {from to most k : ℕ} (seen : Seen xs from to most k) where
+  -- one more place
+  more : getD xs k 0 ≡ 0 → Zeros from k xs → Zeros from (k + 1) xs
+  more e z j a b = dite (ℕ-discrete j k) (λ q. rw q e) (λ q. z j a (omega arith))
 
-    -- a turn that meets a greater number
-    pub seen-greater : most < getD xs k 0 → Seen xs from to (getD xs k 0) (k + 1)
-    seen-greater g = record {
-      low = omega arith;
-      high = omega arith;
-      so-far = λ e. absurd (omega arith);
-      back = λ z. z k (seen .low) (omega arith);
-    }
+  -- a turn that meets a greater number
+  pub seen-greater : k < to → most < getD xs k 0 → Seen xs from to (getD xs k 0) (k + 1)
+  seen-greater h g = record {
+    low = omega arith;
+    high = omega arith;
+    so-far = λ e. absurd (omega arith);
+    back = λ z. z k (seen .low) (omega arith);
+  }
 
-    -- and one that does not
-    pub seen-same : getD xs k 0 ≤ most → Seen xs from to most (k + 1)
-    seen-same l = record {
-      low = omega arith;
-      high = omega arith;
-      so-far = λ e. more (omega arith) (seen .so-far e);
-      back = λ z. seen .back (λ j a b. z j a (omega arith));
-    }
+  -- and one that does not
+  pub seen-same : k < to → getD xs k 0 ≤ most → Seen xs from to most (k + 1)
+  seen-same h l = record {
+    low = omega arith;
+    high = omega arith;
+    so-far = λ e. more (omega arith) (seen .so-far e);
+    back = λ z. seen .back (λ j a b. z j a (omega arith));
+  }
 
   -- after the last turn
-  pub seen-all : (most k : ℕ) → to ≤ k → Seen xs from to most k → Tells (eqb most 0) (Zeros from to xs)
-  seen-all most k h seen = let e : k ≡ to = omega arith in
-      form (equal most 0) (λ z. rw e at (seen .so-far z)) (λ z. seen .back (rw e z))
+  pub seen-all : to ≤ k → Tells (eqb most 0) (Zeros from to xs)
+  seen-all h = let e : k ≡ to = omega arith in form (equal most 0) (λ z. rw e at (seen .so-far z)) (λ z. seen .back (rw e z))

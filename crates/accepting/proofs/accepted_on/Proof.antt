@@ -4,7 +4,7 @@ use Prim.Native.Nat.{_-_, _≤_}
 use native.Mathlib.Omega.{arith}
 use borrow.Author.Needs.{needs}
 use borrow.Author.Tests.{not-true, not-false}
-use Rattle.zeros.specs.Zeros.{each-more}
+use borrow.Author.Count.{below-more}
 use Rattle.programs.specs.Program.{Program}
 use Rattle.configs.specs.Flat.{flat}
 use Rattle.accepting.specs.Asked.{Told, Before, not-one-low, not-one-high, not-one-distinct, not-one-room, one}
@@ -49,7 +49,7 @@ loop-less c = search needs
 loop-again : tie.Need-loop-again Inv-loop μ-loop
 loop-again c = (
   omega (arith, c .before .before .loop-test .taken),
-  λ p t. each-more _ _ (c .before .before .before .loop .inv .1 p t) (c .before .room-ok .ensures p t .holds (not-false _ (c .if4 .left))),
+  λ p t. below-more _ _ (c .before .before .before .loop .inv .1 p t) (c .before .room-ok .ensures p t .holds (not-false _ (c .if4 .left))),
 )
 
 returns-5 : tie.Need-returns-5 Inv-loop μ-loop

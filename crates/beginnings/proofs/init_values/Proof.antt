@@ -6,7 +6,8 @@ use borrow.Author.Needs.{needs}
 use borrow.Author.Tests.{not-true, not-false}
 use denote.Ref.{now}
 use lib.ListN.{getD}
-use Rattle.beginnings.specs.Inits.{InitsAsked, Working, inits-readable, work-bits, pairs-count, variable-small, place-small, inits-wrong, inits-more, inits-none, inits-all}
+use Rattle.tables.specs.Tables.{pairs-length}
+use Rattle.beginnings.specs.Inits.{InitsAsked, Working, inits-readable, work-bits, variable-small, place-small, inits-wrong, inits-more, inits-none, inits-all}
 use Rattle.beginnings.proofs.init_values.Statement.{statement}
 use Rattle.beginnings.proofs.init_values.Tie as tie
 
@@ -102,7 +103,7 @@ returns c =
     let p = l .before in
     let s = p .before .before .before in
     let first = p .before .before .wide .ensures in
-    λ q. inits-wrong q (l .loop .j) (omega (arith, pairs-count q, p .pairs-there .ensures, p .before .wide2 .ensures, first, test .loop-test .taken)) (l .loop .rest) (eval .eval .result) (l .loop .out)
+    λ q. inits-wrong q (l .loop .j) (omega (arith, pairs-length (s .args .inits .now) (s .args .z) (s .args .n), p .pairs-there .ensures, p .before .wide2 .ensures, first, test .loop-test .taken)) (l .loop .rest) (eval .eval .result) (l .loop .out)
     (l .loop .inv .1 q) (rw (e .wide4 .ensures, first) at (eval .eval .ensures))
     (sym (not-true (suit .suits .result) (wrong .if1 .taken)) ∙ rw (type .variable-type .ensures, value .value-of .ensures, x .wide3 .ensures, first) at (suit .suits .ensures)) _ (c .clear .ensures)
 
@@ -112,7 +113,7 @@ element-copy-out-index c =
     let p = l .before in
     let s = p .before .before .before in
     let x = c .before .before .before .before .before .before .before in
-    let b = variable-small (s .pre) (l .loop .j) (omega (arith, pairs-count (s .pre), p .pairs-there .ensures, p .before .wide2 .ensures, p .before .before .wide .ensures, l .loop .inv .0)) in
+    let b = variable-small (s .pre) (l .loop .j) (omega (arith, pairs-length (s .args .inits .now) (s .args .z) (s .args .n), p .pairs-there .ensures, p .before .wide2 .ensures, p .before .before .wide .ensures, l .loop .inv .0)) in
     rw (x .wide3 .ensures, p .before .before .wide .ensures) b
 
 index-requires : tie.Need-index-requires Inv-loop μ-loop
@@ -125,7 +126,7 @@ stored c =
     let p = l .before in
     let s = p .before .before .before in
     let x = c .before .before .before .before .before .before .before .before .before in
-    let b : getD (now (s .args .places)) (getD (now (s .args .inits)) ((s .args .z + l .loop .j) * 2) 0) 0 < 16 = place-small (s .pre) (l .loop .j) (omega (arith, pairs-count (s .pre), p .pairs-there .ensures, p .before .wide2 .ensures, p .before .before .wide .ensures, l .loop .inv .0)) in
+    let b : getD (now (s .args .places)) (getD (now (s .args .inits)) ((s .args .z + l .loop .j) * 2) 0) 0 < 16 = place-small (s .pre) (l .loop .j) (omega (arith, pairs-length (s .args .inits .now) (s .args .z) (s .args .n), p .pairs-there .ensures, p .before .wide2 .ensures, p .before .before .wide .ensures, l .loop .inv .0)) in
     rw (c .index .ensures, x .wide3 .ensures, p .before .before .wide .ensures) b
 
 mul-out : tie.Need-mul-out Inv-loop μ-loop
@@ -155,7 +156,7 @@ loop-again c =
     let s = p .before .before .before in
     let first = p .before .before .wide .ensures in (
       omega arith,
-      λ q. rw (c .index .ensures, x .wide3 .ensures, first) (inits-more q (l .loop .j) (omega (arith, pairs-count q, p .pairs-there .ensures, p .before .wide2 .ensures, first, test .loop-test .taken)) (l .loop .rest) (eval .eval .result) (l .loop .out)
+      λ q. rw (c .index .ensures, x .wide3 .ensures, first) (inits-more q (l .loop .j) (omega (arith, pairs-length (s .args .inits .now) (s .args .z) (s .args .n), p .pairs-there .ensures, p .before .wide2 .ensures, first, test .loop-test .taken)) (l .loop .rest) (eval .eval .result) (l .loop .out)
           (l .loop .inv .1 q) (rw (e .wide4 .ensures, first) at (eval .eval .ensures))
           (sym (not-false (suit .suits .result) (test₀ .if1 .left)) ∙ rw (type .variable-type .ensures, value .value-of .ensures, x .wide3 .ensures, first) at (suit .suits .ensures))),
     )
@@ -164,7 +165,8 @@ returns-2 : tie.Need-returns-2 Inv-loop μ-loop
 returns-2 c =
     let l = c .before in
     let p = l .before in
-    λ q. inits-all q (l .loop .j) (l .loop .rest) (l .loop .out) (l .loop .inv .1 q) (omega (arith, pairs-count q, p .pairs-there .ensures, p .before .wide2 .ensures, p .before .before .wide .ensures, c .loop-test .left))
+    let s = p .before .before .before in
+    λ q. inits-all q (l .loop .j) (l .loop .rest) (l .loop .out) (l .loop .inv .1 q) (omega (arith, pairs-length (s .args .inits .now) (s .args .z) (s .args .n), p .pairs-there .ensures, p .before .wide2 .ensures, p .before .before .wide .ensures, c .loop-test .left))
 
 pub init-values-spec : {M : Type 1} → statement M
 init-values-spec =

@@ -27,6 +27,9 @@ pairs-ok-requires c κs = search needs
 add-zero-u64 : tie.Need-add-zero-u64
 add-zero-u64 c = search needs
 
+add-zero-u64-2 : tie.Need-add-zero-u64-2
+add-zero-u64-2 c = search needs
+
 zero-u64-requires : tie.Need-zero-u64-requires
 zero-u64-requires c κs = search needs
 
@@ -52,6 +55,7 @@ queue-ok-spec =
     mul-b
     pairs-ok-requires
     add-zero-u64
+    add-zero-u64-2
     zero-u64-requires
     returns-2
     returns-3)

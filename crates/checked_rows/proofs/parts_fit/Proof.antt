@@ -4,7 +4,7 @@ use Prim.Native.Nat.{_+_, _≤_, _<_, _-_}
 use borrow.Author.Tests.{not-true, not-false}
 use lib.ListN.{getD}
 use Rattle.lists.specs.Tells.{granted, refuted, denied}
-use Rattle.zeros.specs.Zeros.{each-more}
+use borrow.Author.Count.{below-more}
 use Rattle.checked_rows.specs.CheckedRows.{PartFits, PartsFit}
 use native.Mathlib.Omega.{arith}
 use borrow.Author.Needs.{needs}
@@ -55,7 +55,7 @@ loop-again c =
     let l = c .before .before .before .before .before in
     let a = l .before .args in
     let fit = c .before .part-fits .ensures .holds (not-false _ (c .if1 .left)) in
-    (search needs, each-more (λ i. PartFits (a .heights .now) (a .served .now) (a .n) (a .kind) (i + a .w) (getD (a .parts .now) (a .b + i) 0)) (l .loop .j) (l .loop .inv .1) (rw (c .before .before .wide .ensures) at fit))
+    (search needs, below-more (λ i. PartFits (a .heights .now) (a .served .now) (a .n) (a .kind) (i + a .w) (getD (a .parts .now) (a .b + i) 0)) (l .loop .j) (l .loop .inv .1) (rw (c .before .before .wide .ensures) at fit))
 
 returns-2 : tie.Need-returns-2 Inv-loop μ-loop
 returns-2 c =

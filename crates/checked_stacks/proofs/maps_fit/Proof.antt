@@ -3,7 +3,7 @@ use mathlib.Core.Path.{_≡_}
 use Prim.Native.Nat.{ℕ, _+_, _*_, _≤_, _<_, _-_}
 use borrow.Author.Tests.{not-true, not-false}
 use Rattle.lists.specs.Tells.{form, refuted, denied}
-use Rattle.zeros.specs.Zeros.{each-more}
+use borrow.Author.Count.{below-more}
 use Rattle.checked_stacks.specs.CheckedStacks.{MapFits}
 use native.Mathlib.Omega.{arith}
 use borrow.Author.Needs.{needs}
@@ -46,7 +46,7 @@ loop-again c =
     let l = c .before .before .before in
     let a = l .before .args in
     let fit = c .before .map-fits .ensures .holds (not-false _ (c .if1 .left)) in
-    (search needs, each-more (λ j. MapFits (a .«action-of» .now) (a .maps .now) (a .kind) (a .events) (a .b + j * 64)) (l .loop .d) (l .loop .inv .1) fit)
+    (search needs, below-more (λ j. MapFits (a .«action-of» .now) (a .maps .now) (a .kind) (a .events) (a .b + j * 64)) (l .loop .d) (l .loop .inv .1) fit)
 
 mul-zero-u8 : tie.Need-mul-zero-u8 Inv-loop μ-loop
 mul-zero-u8 c = search needs

@@ -4,7 +4,7 @@ use Prim.Native.Nat.{ℕ, _+_, _≤_, _<_, _-_}
 use borrow.Author.Tests.{not-true, not-false}
 use lib.ListN.{getD}
 use Rattle.lists.specs.Tells.{form, refuted, denied}
-use Rattle.zeros.specs.Zeros.{each-more}
+use borrow.Author.Count.{below-more}
 use Rattle.checked_stacks.specs.CheckedStacks.{StateFits}
 use native.Mathlib.Omega.{arith}
 use borrow.Author.Needs.{needs}
@@ -50,7 +50,7 @@ loop-again c =
     let l = c .before .before .before .before .before in
     let a = l .before .args in
     let fit = c .before .state-fits .ensures .holds (not-false _ (c .if1 .left)) in
-    (search needs, each-more (λ j. StateFits (a .«state-of» .now) (a .kind) (getD (a .states .now) (a .b + j) 0)) (l .loop .d) (l .loop .inv .1) (rw (c .before .before .index .ensures) at fit))
+    (search needs, below-more (λ j. StateFits (a .«state-of» .now) (a .kind) (getD (a .states .now) (a .b + j) 0)) (l .loop .d) (l .loop .inv .1) (rw (c .before .before .index .ensures) at fit))
 
 add-zero-u8 : tie.Need-add-zero-u8 Inv-loop μ-loop
 add-zero-u8 c = search needs

@@ -52,6 +52,9 @@ returns-2 c =
 add-zero-u64 : tie.Need-add-zero-u64
 add-zero-u64 c = search needs
 
+add-zero-u64-2 : tie.Need-add-zero-u64-2
+add-zero-u64-2 c = search needs
+
 zero-u64-requires : tie.Need-zero-u64-requires
 zero-u64-requires c κs = search needs
 
@@ -86,6 +89,7 @@ values-ok-spec =
     variables-ok-requires
     returns-2
     add-zero-u64
+    add-zero-u64-2
     zero-u64-requires
     returns-3
     own-ok-requires

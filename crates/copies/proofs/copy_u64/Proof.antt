@@ -13,7 +13,7 @@ abbrev μ-loop : tie.MeasureT-loop
 μ-loop to₀ b from a n e₀ to e = n - e
 
 loop-holds : tie.Need-loop-holds Inv-loop μ-loop
-loop-holds c = copied-none (c .args .to .now) (c .args .b) (c .args .from .now) (c .args .a) (c .args .n) (c .pre)
+loop-holds c = copied-none (c .pre)
 
 add-to : tie.Need-add-to Inv-loop μ-loop
 add-to c = search needs
@@ -40,21 +40,13 @@ loop-less : tie.Need-loop-less Inv-loop μ-loop
 loop-less c = search needs
 
 loop-again : tie.Need-loop-again Inv-loop μ-loop
-loop-again c =
-    let l = c .before .before .loop in
-    let s = c .before .before .before in
-    let a = s .args in
-    copied-more (a .to .now) (a .b) (a .from .now) (a .a) (a .n) (s .pre) (l .to) (l .e) (omega arith) (l .inv)
+loop-again c = copied-more (c .before .before .loop .inv) (omega arith)
 
 same-length : tie.Need-same-length Inv-loop μ-loop
 same-length c = search needs
 
 returns : tie.Need-returns Inv-loop μ-loop
-returns c =
-    let l = c .before .loop in
-    let s = c .before .before in
-    let a = s .args in
-    copied-all (a .to .now) (a .b) (a .from .now) (a .a) (a .n) (s .pre) (l .to) (l .e) (omega arith) (l .inv)
+returns c = copied-all (c .before .loop .inv) (omega arith)
 
 pub copy-u64-spec : {M : Type 1} → statement M
 copy-u64-spec =

@@ -1,19 +1,19 @@
--- `deleting::clear_u16` meets its contract: the loop that clears, of specs/Deleting.antt. Assumes nothing.
+-- `deleting::clear_u16` meets its contract: the loop that clears, of crates/rows. Assumes nothing.
 use Prim.Native.Nat.{_-_}
 use native.Mathlib.Omega.{arith}
 use borrow.Author.Needs.{needs}
-use Rattle.deleting.specs.Deleting.{Clearing, clear-none, clear-more, clear-all}
+use Rattle.rows.specs.Fill.{Clearing, clearing-none, clearing-more, filling-all}
 use Rattle.deleting.proofs.clear_u16.Statement.{statement}
 use Rattle.deleting.proofs.clear_u16.Tie as tie
 
 abbrev Inv-loop : tie.InvT-loop
-Inv-loop to₀ b n e₀ to e = Clearing to₀ b n to e
+Inv-loop to₀ b n e₀ to e = Clearing 0 b n to₀ to e
 
 abbrev μ-loop : tie.MeasureT-loop
 μ-loop to₀ b n e₀ to e = n - e
 
 loop-holds : tie.Need-loop-holds Inv-loop μ-loop
-loop-holds c = clear-none (c .args .to .now) (c .args .b) (c .args .n) (c .pre)
+loop-holds c = clearing-none 0 (c .pre)
 
 add-to : tie.Need-add-to Inv-loop μ-loop
 add-to c = search needs
@@ -31,21 +31,13 @@ loop-less : tie.Need-loop-less Inv-loop μ-loop
 loop-less c = search needs
 
 loop-again : tie.Need-loop-again Inv-loop μ-loop
-loop-again c =
-    let l = c .before .loop in
-    let s = c .before .before in
-    let a = s .args in
-    clear-more (a .to .now) (a .b) (a .n) (s .pre) (l .to) (l .e) (omega arith) (l .inv)
+loop-again c = clearing-more 0 (c .before .loop .inv) (omega arith)
 
 same-length : tie.Need-same-length Inv-loop μ-loop
 same-length c = search needs
 
 returns : tie.Need-returns Inv-loop μ-loop
-returns c =
-    let l = c .before .loop in
-    let s = c .before .before in
-    let a = s .args in
-    clear-all (a .to .now) (a .b) (a .n) (s .pre) (l .to) (l .e) (omega arith) (l .inv)
+returns c = filling-all 0 (c .before .loop .inv) (omega arith)
 
 pub clear-u16-spec : {M : Type 1} → statement M
 clear-u16-spec =

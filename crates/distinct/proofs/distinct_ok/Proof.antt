@@ -2,7 +2,7 @@
 use Prim.Native.Nat.{ℕ, _≤_, _<_, _-_}
 use borrow.Author.Tests.{not-true, not-false}
 use Rattle.lists.specs.Tells.{granted, refuted, denied}
-use Rattle.zeros.specs.Zeros.{each-more}
+use borrow.Author.Count.{below-more}
 use Rattle.distinct.specs.Distinct.{Single, distinct-told}
 use native.Mathlib.Omega.{arith}
 use borrow.Author.Needs.{needs}
@@ -35,7 +35,7 @@ loop-less c = search needs
 loop-again : tie.Need-loop-again Inv-loop μ-loop
 loop-again c =
     let l = c .before .before .before in
-    (search needs, each-more (Single (l .before .args .ids .now)) (l .loop .i) (l .loop .inv .1) (c .before .single .ensures .holds (not-false _ (c .if1 .left))))
+    (search needs, below-more (Single (l .before .args .ids .now)) (l .loop .i) (l .loop .inv .1) (c .before .single .ensures .holds (not-false _ (c .if1 .left))))
 
 returns-2 : tie.Need-returns-2 Inv-loop μ-loop
 returns-2 c =

@@ -3,7 +3,7 @@ use mathlib.Core.Path.{_≡_}
 use Prim.Native.Nat.{ℕ, _≤_, _<_, _-_}
 use lib.ListN.{getD}
 use Rattle.lists.specs.Tells.{granted, refuted}
-use Rattle.zeros.specs.Zeros.{each-more}
+use borrow.Author.Count.{below-more}
 use native.Mathlib.Omega.{arith}
 use borrow.Author.Needs.{needs}
 use Rattle.distinct.proofs.single.Statement.{statement}
@@ -51,7 +51,7 @@ loop-again : tie.Need-loop-again Inv-loop μ-loop
 loop-again c =
     let l = c .before .before .before .loop in
     let a = c .before .before .before .before .before .before .args in
-    (search needs, search needs, each-more (λ k. a .i < k → getD (a .ids .now) k 0 ≡ getD (a .ids .now) (a .i) 0 → ⊥) (l .j) (l .inv .2) (λ b. c .if2 .left))
+    (search needs, search needs, below-more (λ k. a .i < k → getD (a .ids .now) k 0 ≡ getD (a .ids .now) (a .i) 0 → ⊥) (l .j) (l .inv .2) (λ b. c .if2 .left))
 
 returns-3 : tie.Need-returns-3 Inv-loop μ-loop
 returns-3 c =

@@ -1,11 +1,11 @@
 -- `doubling::name_pairs` meets its contract: before a turn the first j expressions are named. Assumes nothing.
-use mathlib.Core.Path.{_≡_, ap, _∙_}
+use mathlib.Core.Path.{_≡_}
 use mathlib.Core.List.{List, map}
-use Prim.Native.Nat.{ℕ, _+_, _-_, _*_, _≤_, _<_, min}
-use lib.ListN.{length, getD, take, length-map, List·getD-map}
+use Prim.Native.Nat.{ℕ, _-_, _≤_, min}
+use lib.ListN.{take}
 use lib.Seq.{take-all}
 use Rattle.tables.specs.Decode.{pairsOf}
-use Rattle.naming.specs.Naming.{noPair, pairs-length, pairs-get}
+use Rattle.tables.specs.Tables.{column-length, column-get}
 use Rattle.doubling.specs.Doubling.{Named, named-none, named-next}
 use borrow.Author.Needs.{needs}
 use native.Mathlib.Omega.{arith}
@@ -15,14 +15,6 @@ use Rattle.doubling.proofs.name_pairs.Tie as tie
 -- the expressions of the pairs
 abbrev exprs : List ℕ → ℕ → ℕ → List ℕ
 exprs inits i n = map (λ xe. xe .1) (pairsOf inits i n)
-
--- as many as there are
-size : (inits : List ℕ) (i n : ℕ) → length (exprs inits i n) ≡ min n (1024 - i)
-size inits i n = length-map (pairsOf inits i n) (λ xe. xe .1) ∙ pairs-length inits i n
-
--- the one of pair j
-place : (inits : List ℕ) (i n j : ℕ) → j < min n (1024 - i) → getD (exprs inits i n) j 0 ≡ getD inits ((i + j) * 2 + 1) 0
-place inits i n j h = List·getD-map (λ xe. xe .1) (pairsOf inits i n) j noPair ∙ ap (λ (xe : ℕ × ℕ). xe .1) (pairs-get inits i n j h)
 
 abbrev Inv-loop : tie.InvT-loop
 Inv-loop seen₀ inits i n m again₀ j₀ seen again j = (j ≤ m) × (m ≡ min n (1024 - i)) × Named seen₀ (take j (exprs inits i n)) again seen
@@ -70,15 +62,15 @@ loop-again c =
     let a = t .before .before .before .args in (
       omega arith,
       l .inv .1,
-      rw (c .either .ensures) (named-next (exprs (a .inits .now) (a .i) (a .n)) (l .j) _ (omega (arith, size (a .inits .now) (a .i) (a .n)))
-          (place (a .inits .now) (a .i) (a .n) (l .j) (omega arith)) (l .inv .2) (c .before .name .ensures)),
+      rw (c .either .ensures) (named-next (exprs (a .inits .now) (a .i) (a .n)) (l .j) _ (omega (arith, column-length (a .inits .now) (a .i) (a .n) (λ xe. xe .1)))
+          (column-get (a .inits .now) (a .i) (a .n) (λ xe. xe .1) (l .j) (omega arith)) (l .inv .2) (c .before .name .ensures)),
     )
 
 returns : tie.Need-returns Inv-loop μ-loop
 returns c =
     let l = c .before .loop in
     let a = c .before .before .before .args in
-    rw (take-all (l .j) (exprs (a .inits .now) (a .i) (a .n)) (omega (arith, size (a .inits .now) (a .i) (a .n)))) at (l .inv .2)
+    rw (take-all (l .j) (exprs (a .inits .now) (a .i) (a .n)) (omega (arith, column-length (a .inits .now) (a .i) (a .n) (λ xe. xe .1)))) at (l .inv .2)
 
 pub name-pairs-spec : {M : Type 1} → statement M
 name-pairs-spec =

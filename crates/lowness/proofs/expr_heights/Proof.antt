@@ -1,20 +1,15 @@
 -- `lowness::expr_heights` meets its contract: before the turn of expression e the lower ones have their heights, and the others 1.
-use mathlib.Core.Path.{_≡_, refl, ap, _∙_}
+use mathlib.Core.Path.{refl, ap, _∙_}
 use Prim.Native.Nat.{ℕ, _+_, _-_, _≤_}
-use mathlib.Core.List.{List}
 use lib.ListN.{length-replicate, getD-replicate}
 use Rattle.programs.specs.Trees.{operands}
 use Rattle.marks.specs.Inner.{operandsIn}
-use Rattle.marks.specs.Tall.{Over, Climbed, climbed-first, climbed-more}
+use Rattle.marks.specs.Tall.{over-told, Climbed, climbed-first, climbed-more}
 use Rattle.lowness.specs.Trees.{climbed-exprs}
 use native.Mathlib.Omega.{arith}
 use borrow.Author.Needs.{needs}
 use Rattle.lowness.proofs.expr_heights.Statement.{statement}
 use Rattle.lowness.proofs.expr_heights.Tie as tie
-
--- the height over an expression's operands, the expression told
-of-operands : (l : List ℕ) (n : ℕ) {ts us : List ℕ} {r : ℕ} → ts ≡ us → Over l n ts r → Over l n us r
-of-operands l n e h = rw (← e) h
 
 abbrev Inv-loop : tie.InvT-loop
 Inv-loop exprs n heights₀ e₀ heights e = (1 ≤ e) × (e ≤ n + 1) × (n ≤ 1024) × Climbed (operandsIn exprs) e heights
@@ -59,7 +54,7 @@ loop-again c =
     let t = c .before .before .before .before in
     let l = t .before .loop in
     let exprs = t .before .before .before .args .exprs .now in
-    let h = of-operands (l .heights) (l .e) (c .before .before .operands-of .ensures ∙ ap operands (c .before .before .before .expr-at .ensures)) (c .height-over .ensures) in
+    let h = over-told (l .heights) (l .e) (c .before .before .operands-of .ensures ∙ ap operands (c .before .before .before .expr-at .ensures)) (c .height-over .ensures) in
     (omega arith, omega (arith, t .loop-test .taken), l .inv .2, climbed-more (operandsIn exprs) (l .e) (l .heights) (l .inv .3) (l .inv .0) (omega (arith, t .loop-test .taken, l .inv .2)) _ (h .0) (h .1))
 
 returns : tie.Need-returns Inv-loop μ-loop

@@ -1,6 +1,6 @@
--- `lowness::first_expr` meets its contract: what is left to look at gives what all of it gives.
-use Prim.Native.Nat.{_+_, _-_, _≤_}
-use Rattle.fronts.specs.First.{Seeking, seek-first, seek-more, seek-found, seek-none}
+-- `lowness::first_expr` meets its contract: those before the one that it has come to pass.
+use Prim.Native.Nat.{_+_, _-_}
+use Rattle.faults.specs.First.{Seeking, seek-first, seek-more, seek-found, seek-none}
 use Rattle.lowness.specs.Low.{lowExpr, too-high, low-enough}
 use native.Mathlib.Omega.{arith}
 use borrow.Author.Needs.{needs}
@@ -8,13 +8,13 @@ use Rattle.lowness.proofs.first_expr.Statement.{statement}
 use Rattle.lowness.proofs.first_expr.Tie as tie
 
 abbrev Inv-loop : tie.InvT-loop
-Inv-loop heights n e₀ e = (1 ≤ e) × (e ≤ n + 1) × Seeking (lowExpr heights) n e
+Inv-loop heights n e₀ e = Seeking (lowExpr heights) n e
 
 abbrev μ-loop : tie.MeasureT-loop
 μ-loop heights n e₀ e = n + 1 - e
 
 loop-holds : tie.Need-loop-holds Inv-loop μ-loop
-loop-holds c = let a = c .args in (omega arith, omega arith, seek-first (lowExpr (a .heights .now)) (a .n))
+loop-holds c = seek-first
 
 mul-wide : tie.Need-mul-wide Inv-loop μ-loop
 mul-wide c = search needs
@@ -28,9 +28,7 @@ wide-requires c κs = search needs
 returns : tie.Need-returns Inv-loop μ-loop
 returns c =
     let t = c .before .before .before in
-    let l = t .before .loop in
-    let a = t .before .before .args in
-    (seek-found (lowExpr (a .heights .now)) (a .n) (l .e) (t .loop-test .taken) (too-high (c .before .wide .ensures) (c .if1 .taken)) (l .inv .2), t .loop-test .taken)
+    (seek-found (t .before .loop .inv) (t .loop-test .taken) (too-high (c .before .wide .ensures) (c .if1 .taken)), t .loop-test .taken)
 
 add-e : tie.Need-add-e Inv-loop μ-loop
 add-e c = search needs
@@ -41,15 +39,10 @@ loop-less c = search needs
 loop-again : tie.Need-loop-again Inv-loop μ-loop
 loop-again c =
     let t = c .before .before .before in
-    let l = t .before .loop in
-    let a = t .before .before .args in
-    (omega arith, omega (arith, t .loop-test .taken), seek-more (lowExpr (a .heights .now)) (a .n) (l .e) (t .loop-test .taken) (low-enough (c .before .wide .ensures) (c .if1 .left)) (l .inv .2))
+    seek-more (t .before .loop .inv) (t .loop-test .taken) (low-enough (c .before .wide .ensures) (c .if1 .left))
 
 returns-2 : tie.Need-returns-2 Inv-loop μ-loop
-returns-2 c =
-    let l = c .before .loop in
-    let a = c .before .before .args in
-    (seek-none (lowExpr (a .heights .now)) (a .n) (l .e) (c .loop-test .left) (l .inv .2), omega arith)
+returns-2 c = (seek-none (c .before .loop .inv) (c .loop-test .left), omega arith)
 
 pub first-expr-spec : {M : Type 1} → statement M
 first-expr-spec =

@@ -28,16 +28,23 @@ first-stmt-requires c κs =
     let n = c .before .before .before .before .before in
     (omega (arith, n .stmt-count .ensures), c .before .before .before .expr-stars .ensures .0)
 
-term-line-requires : tie.Need-term-line-requires
-term-line-requires c κs =
+joined-requires : tie.Need-joined-requires
+joined-requires c κs =
     let e = c .before .before .first-expr in
     let h = c .before .before .before .before .before .before in
     let x = h .before in
     omega (arith, c .first-stmt .ensures .1, e .ensures .1, h .stmt-count .ensures, x .expr-count .ensures, x .before .front .ensures .1)
 
+onward-requires : tie.Need-onward-requires
+onward-requires c κs =
+    let s = c .before in
+    let h = s .before .before .before .before .before .before in
+    let x = h .before in
+    omega (arith, c .joined .ensures .1, s .first-stmt .ensures .1, s .before .before .first-expr .ensures .1, h .stmt-count .ensures, x .expr-count .ensures, x .before .front .ensures .1)
+
 returns : tie.Need-returns
 returns c =
-    let s = c .before in
+    let s = c .before .before in
     let e = s .before .before in
     let k = e .before .before in
     let t = k .before in
@@ -45,7 +52,7 @@ returns c =
     let x = n .before in
     let b = x .before in
     let a = b .before .args in
-    λ p told h. low-line (a .event-types .now) (a .kinds) (a .variable-of .now) (a .exprs .now) (a .stmts .now) (a .inits .now) (a .heights .now) _ _ p told h (t .expr-heights .ensures p (told .same-exprs)) (k .expr-stars .ensures .1 p (told .same-exprs)) _ _ _ _ _ _ (b .front .ensures .0) (x .expr-count .ensures) (n .stmt-count .ensures) (e .first-expr .ensures .0) (s .first-stmt .ensures .0) (c .term-line .ensures)
+    λ p told h. low-line (a .event-types .now) (a .kinds) (a .variable-of .now) (a .exprs .now) (a .stmts .now) (a .inits .now) (a .heights .now) _ _ p told h (t .expr-heights .ensures p (told .same-exprs)) (k .expr-stars .ensures .1 p (told .same-exprs)) _ _ _ _ _ _ (b .front .ensures .0) (x .expr-count .ensures) (n .stmt-count .ensures) (e .first-expr .ensures .0) (s .first-stmt .ensures .0) (rw (c .before .joined .ensures .0) at (c .onward .ensures .0))
 
 pub low-spec : {M : Type 1} → statement M
 low-spec =
@@ -58,5 +65,6 @@ low-spec =
     expr-stars-requires
     first-expr-requires
     first-stmt-requires
-    term-line-requires
+    joined-requires
+    onward-requires
     returns)

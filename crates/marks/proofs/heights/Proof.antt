@@ -1,18 +1,13 @@
 -- `marks::heights` meets its contract: before the turn of statement s the lower ones have their heights, and the others 1.
-use mathlib.Core.Path.{_≡_, refl, ap, _∙_}
+use mathlib.Core.Path.{refl, ap, _∙_}
 use Prim.Native.Nat.{ℕ, _+_, _-_, _≤_}
-use mathlib.Core.List.{List}
 use native.Mathlib.Omega.{arith}
 use borrow.Author.Needs.{needs}
 use lib.ListN.{length-replicate, getD-replicate}
 use Rattle.marks.specs.Inner.{headParts, partsIn}
-use Rattle.marks.specs.Tall.{Over, Climbed, climbed-first, climbed-more, climbed-heights}
+use Rattle.marks.specs.Tall.{over-told, Climbed, climbed-first, climbed-more, climbed-heights}
 use Rattle.marks.proofs.heights.Statement.{statement}
 use Rattle.marks.proofs.heights.Tie as tie
-
--- the height over a statement's parts, its head told
-of-parts : (l : List ℕ) (n : ℕ) {ts us : List ℕ} {r : ℕ} → ts ≡ us → Over l n ts r → Over l n us r
-of-parts l n e h = rw (← e) h
 
 abbrev Inv-loop : tie.InvT-loop
 Inv-loop stmts n heights₀ s₀ heights s = (1 ≤ s) × (s ≤ n + 1) × (n ≤ 1024) × Climbed (partsIn stmts) s heights
@@ -57,7 +52,7 @@ loop-again c =
     let t = c .before .before .before .before in
     let l = t .before .loop in
     let stmts = t .before .before .before .args .stmts .now in
-    let h = of-parts (l .heights) (l .s) (c .before .before .parts-of .ensures ∙ ap headParts (c .before .before .before .stmt-at .ensures)) (c .height-over .ensures) in
+    let h = over-told (l .heights) (l .s) (c .before .before .parts-of .ensures ∙ ap headParts (c .before .before .before .stmt-at .ensures)) (c .height-over .ensures) in
     (omega arith, omega (arith, t .loop-test .taken), l .inv .2, climbed-more (partsIn stmts) (l .s) (l .heights) (l .inv .3) (l .inv .0) (omega (arith, t .loop-test .taken, l .inv .2)) _ (h .0) (h .1))
 
 returns : tie.Need-returns Inv-loop μ-loop

@@ -9,7 +9,8 @@ use Rattle.lists.specs.Lists.{there}
 use Rattle.programs.specs.Program.{Program as Lines}
 use Rattle.tables.specs.Decode.{pairsOf}
 use Rattle.faults.specs.Each.{Passing, passing-more, each-passes, each-fails}
-use Rattle.naming.specs.Naming.{pairRefers, noPair, pairs-length, pairs-get}
+use Rattle.tables.specs.Tables.{noPair, pairs-length, pairs-get}
+use Rattle.naming.specs.Naming.{pairRefers}
 use borrow.Author.Needs.{needs}
 use native.Mathlib.Omega.{arith}
 use Rattle.naming.proofs.pairs_refer.Statement.{statement}

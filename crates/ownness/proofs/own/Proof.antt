@@ -23,24 +23,32 @@ first-expr-requires c κs = search needs
 first-stmt-requires : tie.Need-first-stmt-requires
 first-stmt-requires c κs = search needs
 
-term-line-requires : tie.Need-term-line-requires
-term-line-requires c κs =
+joined-requires : tie.Need-joined-requires
+joined-requires c κs =
     let s = c in
     let e = s .before in
     let n = e .before .before .before in
     let x = n .before in
     omega (arith, s .first-stmt .ensures .1, e .first-expr .ensures .1, n .stmt-count .ensures, x .expr-count .ensures, x .before .front .ensures .1)
 
+onward-requires : tie.Need-onward-requires
+onward-requires c κs =
+    let s = c .before in
+    let e = s .before in
+    let n = e .before .before .before in
+    let x = n .before in
+    omega (arith, c .joined .ensures .1, s .first-stmt .ensures .1, e .first-expr .ensures .1, n .stmt-count .ensures, x .expr-count .ensures, x .before .front .ensures .1)
+
 returns : tie.Need-returns
 returns c =
-    let s = c .before in
+    let s = c .before .before in
     let e = s .before in
     let m = e .before .before in
     let n = m .before in
     let x = n .before in
     let b = x .before in
     let a = b .before .args in
-    λ p told h. own-line (a .event-types .now) (a .kinds) (a .variable-of .now) (a .exprs .now) (a .stmts .now) (a .inits .now) (a .served .now) _ p told (b .before .pre) h (m .expr-served .ensures p (told .same-exprs) (told .same-stmts) h) _ _ _ _ _ _ (b .front .ensures .0) (x .expr-count .ensures) (n .stmt-count .ensures) (e .first-expr .ensures .0) (s .first-stmt .ensures .0) (c .term-line .ensures)
+    λ p told h. own-line (a .event-types .now) (a .kinds) (a .variable-of .now) (a .exprs .now) (a .stmts .now) (a .inits .now) (a .served .now) _ p told (b .before .pre) h (m .expr-served .ensures p (told .same-exprs) (told .same-stmts) h) _ _ _ _ _ _ (b .front .ensures .0) (x .expr-count .ensures) (n .stmt-count .ensures) (e .first-expr .ensures .0) (s .first-stmt .ensures .0) (rw (c .before .joined .ensures .0) at (c .onward .ensures .0))
 
 pub own-spec : {M : Type 1} → statement M
 own-spec =
@@ -52,5 +60,6 @@ own-spec =
     expr-served-requires
     first-expr-requires
     first-stmt-requires
-    term-line-requires
+    joined-requires
+    onward-requires
     returns)

@@ -2,7 +2,7 @@
 use mathlib.Core.Path.{_≡_, refl}
 use Prim.Native.Nat.{_≤_}
 use Rattle.lists.specs.Lists.{upTo}
-use Rattle.fronts.specs.First.{told-no, told-yes}
+use Rattle.faults.specs.First.{told-no, told-yes}
 use Rattle.ownness.specs.Own.{ownKind, up-more, up-found, up-none}
 use native.Mathlib.Omega.{arith}
 use borrow.Author.Needs.{needs}

@@ -1,6 +1,6 @@
--- `quietness::first_state` meets its contract: what is left to look at gives what all of it gives.
-use Prim.Native.Nat.{_+_, _-_, _≤_}
-use Rattle.fronts.specs.First.{Seeking, seek-first, seek-more, seek-found, seek-none, told-no, told-yes}
+-- `quietness::first_state` meets its contract: those before the one that it has come to pass.
+use Prim.Native.Nat.{_+_, _-_}
+use Rattle.faults.specs.First.{Seeking, seek-first, seek-yes, seek-no, seek-none}
 use Rattle.quietness.specs.Quiet.{quietExit}
 use native.Mathlib.Omega.{arith}
 use borrow.Author.Needs.{needs}
@@ -8,13 +8,13 @@ use Rattle.quietness.proofs.first_state.Statement.{statement}
 use Rattle.quietness.proofs.first_state.Tie as tie
 
 abbrev Inv-loop : tie.InvT-loop
-Inv-loop loud exits n q₀ q = (1 ≤ q) × (q ≤ n + 1) × Seeking (quietExit loud exits) n q
+Inv-loop loud exits n q₀ q = Seeking (quietExit loud exits) n q
 
 abbrev μ-loop : tie.MeasureT-loop
 μ-loop loud exits n q₀ q = n + 1 - q
 
 loop-holds : tie.Need-loop-holds Inv-loop μ-loop
-loop-holds c = let a = c .args in (omega arith, omega arith, seek-first (quietExit (a .loud .now) (a .exits .now)) (a .n))
+loop-holds c = seek-first
 
 mul-x : tie.Need-mul-x Inv-loop μ-loop
 mul-x c = search needs
@@ -28,9 +28,7 @@ quiet-at-requires c κs = search needs
 returns : tie.Need-returns Inv-loop μ-loop
 returns c =
     let t = c .before .before .before in
-    let l = t .before .loop in
-    let a = t .before .before .args in
-    (seek-found (quietExit (a .loud .now) (a .exits .now)) (a .n) (l .q) (t .loop-test .taken) (told-no (c .before .quiet-at .ensures) (c .if1 .taken)) (l .inv .2), t .loop-test .taken)
+    (seek-no (t .before .loop .inv) (t .loop-test .taken) (c .before .quiet-at .ensures) (c .if1 .taken), t .loop-test .taken)
 
 add-q : tie.Need-add-q Inv-loop μ-loop
 add-q c = search needs
@@ -41,15 +39,10 @@ loop-less c = search needs
 loop-again : tie.Need-loop-again Inv-loop μ-loop
 loop-again c =
     let t = c .before .before .before in
-    let l = t .before .loop in
-    let a = t .before .before .args in
-    (omega arith, omega (arith, t .loop-test .taken), seek-more (quietExit (a .loud .now) (a .exits .now)) (a .n) (l .q) (t .loop-test .taken) (told-yes (c .before .quiet-at .ensures) (c .if1 .left)) (l .inv .2))
+    seek-yes (t .before .loop .inv) (t .loop-test .taken) (c .before .quiet-at .ensures) (c .if1 .left)
 
 returns-2 : tie.Need-returns-2 Inv-loop μ-loop
-returns-2 c =
-    let l = c .before .loop in
-    let a = c .before .before .args in
-    (seek-none (quietExit (a .loud .now) (a .exits .now)) (a .n) (l .q) (c .loop-test .left) (l .inv .2), omega arith)
+returns-2 c = (seek-none (c .before .loop .inv) (c .loop-test .left), omega arith)
 
 pub first-state-spec : {M : Type 1} → statement M
 first-state-spec =

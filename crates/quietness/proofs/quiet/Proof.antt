@@ -1,4 +1,5 @@
 -- `quietness::quiet` meets its contract: the first fault of the states, by the law of specs/Quiet.antt.
+use Prim.Native.Nat.{_+_, _≤_}
 use Rattle.quietness.specs.Quiet.{quiet-line}
 use native.Mathlib.Omega.{arith}
 use borrow.Author.Needs.{needs}
@@ -27,8 +28,10 @@ first-state-requires : tie.Need-first-state-requires
 first-state-requires c κs =
     (omega (arith, c .before .before .state-count .ensures), c .before .loud .ensures .size)
 
-add-line-behind : tie.Need-add-line-behind
-add-line-behind c =
+-- there are few lines
+few : (c : tie.After-first-state) → c .before .before .before .before .before .before .before .front .result + c .before .before .before .before .before .before .expr-count .result
+    + c .before .before .before .before .before .stmt-count .result + c .before .before .before .before .action-count .result + c .first-state .result ≤ 4294967296
+few c =
     let s = c .before .before .before in
     let a = s .before in
     let n = a .before in
@@ -36,32 +39,17 @@ add-line-behind c =
     let b = x .before in
     omega (arith, c .first-state .ensures .1, s .state-count .ensures, a .action-count .ensures, n .stmt-count .ensures, x .expr-count .ensures, b .front .ensures .1)
 
-add-line-behind-2 : tie.Need-add-line-behind-2
-add-line-behind-2 c =
-    let s = c .before .before .before in
-    let a = s .before in
-    let n = a .before in
-    let x = n .before in
-    let b = x .before in
-    omega (arith, c .first-state .ensures .1, s .state-count .ensures, a .action-count .ensures, n .stmt-count .ensures, x .expr-count .ensures, b .front .ensures .1)
+add-onward : tie.Need-add-onward
+add-onward c = omega (arith, few c)
 
-add-line-behind-3 : tie.Need-add-line-behind-3
-add-line-behind-3 c =
-    let s = c .before .before .before in
-    let a = s .before in
-    let n = a .before in
-    let x = n .before in
-    let b = x .before in
-    omega (arith, c .first-state .ensures .1, s .state-count .ensures, a .action-count .ensures, n .stmt-count .ensures, x .expr-count .ensures, b .front .ensures .1)
+add-onward-2 : tie.Need-add-onward-2
+add-onward-2 c = omega (arith, few c)
 
-line-behind-requires : tie.Need-line-behind-requires
-line-behind-requires c κs =
-    let s = c .before .before .before in
-    let a = s .before in
-    let n = a .before in
-    let x = n .before in
-    let b = x .before in
-    omega (arith, c .first-state .ensures .1, s .state-count .ensures, a .action-count .ensures, n .stmt-count .ensures, x .expr-count .ensures, b .front .ensures .1)
+add-onward-3 : tie.Need-add-onward-3
+add-onward-3 c = omega (arith, few c)
+
+onward-requires : tie.Need-onward-requires
+onward-requires c κs = omega (arith, few c)
 
 returns : tie.Need-returns
 returns c =
@@ -73,7 +61,7 @@ returns c =
     let x = n .before in
     let b = x .before in
     let g = b .before .args in
-    λ p told. quiet-line (g .event-types .now) (g .kinds) (g .variable-of .now) (g .exprs .now) (g .stmts .now) (g .action-of .now) (g .state-of .now) (g .state-exit .now) _ p told (l .loud .ensures) _ _ _ _ _ _ _ (b .front .ensures .0) (x .expr-count .ensures) (n .stmt-count .ensures) (a .action-count .ensures) (s .state-count .ensures) (q .first-state .ensures .0) (c .line-behind .ensures)
+    λ p told. quiet-line (g .event-types .now) (g .kinds) (g .variable-of .now) (g .exprs .now) (g .stmts .now) (g .action-of .now) (g .state-of .now) (g .state-exit .now) _ p told (l .loud .ensures) _ _ _ _ _ _ _ (b .front .ensures .0) (x .expr-count .ensures) (n .stmt-count .ensures) (a .action-count .ensures) (s .state-count .ensures) (q .first-state .ensures .0) (c .onward .ensures .0)
 
 pub quiet-spec : {M : Type 1} → statement M
 quiet-spec =
@@ -86,8 +74,8 @@ quiet-spec =
     state-count-requires
     loud-requires
     first-state-requires
-    add-line-behind
-    add-line-behind-2
-    add-line-behind-3
-    line-behind-requires
+    add-onward
+    add-onward-2
+    add-onward-3
+    onward-requires
     returns)

@@ -1,12 +1,14 @@
 -- `remaining::clear_row` meets its contract: the loop has cleared the first i parts.
 use Prim.Native.Nat.{_-_}
-use Rattle.remaining.specs.Remaining.{Clearing, clear-first, clear-more, clear-left}
+use native.Mathlib.Omega.{arith}
+use Rattle.rows.specs.Fill.{Clearing, clearing-none, clearing-more, filling-all}
+use Rattle.remaining.specs.Remaining.{clear-left}
 use borrow.Author.Needs.{needs}
 use Rattle.remaining.proofs.clear_row.Statement.{statement}
 use Rattle.remaining.proofs.clear_row.Tie as tie
 
 abbrev Inv-loop : tie.InvT-loop
-Inv-loop counts parts₀ k n b i₀ parts i = Clearing b n parts₀ i parts
+Inv-loop counts parts₀ k n b i₀ parts i = Clearing 0 b n parts₀ parts i
 
 abbrev μ-loop : tie.MeasureT-loop
 μ-loop counts parts₀ k n b i₀ parts i = n - i
@@ -22,8 +24,8 @@ mul-b c = search needs
 
 loop-holds : tie.Need-loop-holds Inv-loop μ-loop
 loop-holds c =
-    let s = c .before in
-    clear-first _ _ (s .args .parts .now) (s .pre .row)
+    let r = c .before .pre .row in
+    clearing-none 0 (omega (arith, r .long, r .inside, r .fits))
 
 add-parts : tie.Need-add-parts Inv-loop μ-loop
 add-parts c = search needs
@@ -41,9 +43,7 @@ loop-less : tie.Need-loop-less Inv-loop μ-loop
 loop-less c = search needs
 
 loop-again : tie.Need-loop-again Inv-loop μ-loop
-loop-again c =
-    let l = c .before .loop in
-    clear-more _ _ _ (l .i) (l .parts) (c .loop-test .taken) (l .inv)
+loop-again c = clearing-more 0 (c .before .loop .inv) (c .loop-test .taken)
 
 mul-counts : tie.Need-mul-counts Inv-loop μ-loop
 mul-counts c = search needs
@@ -56,7 +56,7 @@ returns c =
     let l = c .before .loop in
     let s = c .before .before .before in
     let a = s .args in
-    clear-left (a .k) (a .counts .now) (a .parts .now) (l .i) (l .parts) (s .pre) (c .loop-test .left) (l .inv)
+    clear-left (a .k) (a .counts .now) (a .parts .now) (l .parts) (s .pre) (filling-all 0 (l .inv) (c .loop-test .left))
 
 pub clear-row-spec : {M : Type 1} → statement M
 clear-row-spec =

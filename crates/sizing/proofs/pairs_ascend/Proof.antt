@@ -1,11 +1,10 @@
 -- `sizing::pairs_ascend` meets its contract: before a turn each of the first j variables is below the next. Assumes nothing.
-use mathlib.Core.Path.{_≡_, ap, sym, _∙_}
+use mathlib.Core.Path.{_≡_, sym}
 use mathlib.Core.List.{List, map}
-use Prim.Native.Nat.{ℕ, _+_, _-_, _*_, _≤_, _<_, min}
+use Prim.Native.Nat.{ℕ, _+_, _-_, _≤_, min}
 use borrow.Author.Tests.{lt-ltb, le-ltb}
-use lib.ListN.{length, getD, length-map, List·getD-map}
 use Rattle.tables.specs.Decode.{pairsOf}
-use Rattle.naming.specs.Naming.{noPair, pairs-length, pairs-get}
+use Rattle.tables.specs.Tables.{column-length, column-get}
 use Rattle.sizing.specs.Ascending.{Rising, rising-more, rising-ascends, not-ascends}
 use borrow.Author.Needs.{needs}
 use native.Mathlib.Omega.{arith}
@@ -15,14 +14,6 @@ use Rattle.sizing.proofs.pairs_ascend.Tie as tie
 -- the variables of the pairs
 abbrev variables : List ℕ → ℕ → ℕ → List ℕ
 variables inits i n = map (λ xe. xe .0) (pairsOf inits i n)
-
--- as many as there are
-size : (inits : List ℕ) (i n : ℕ) → length (variables inits i n) ≡ min n (1024 - i)
-size inits i n = length-map (pairsOf inits i n) (λ xe. xe .0) ∙ pairs-length inits i n
-
--- the one of pair j
-place : (inits : List ℕ) (i n j : ℕ) → j < min n (1024 - i) → getD (variables inits i n) j 0 ≡ getD inits ((i + j) * 2) 0
-place inits i n j h = List·getD-map (λ xe. xe .0) (pairsOf inits i n) j noPair ∙ ap (λ (xe : ℕ × ℕ). xe .0) (pairs-get inits i n j h)
 
 abbrev Inv-loop : tie.InvT-loop
 Inv-loop inits i n m j₀ j = (j ≤ m) × (m ≡ min n (1024 - i)) × Rising (variables inits i n) j
@@ -71,8 +62,8 @@ returns c =
     let t = c .before .before .before in
     let l = t .before .loop in
     let a = t .before .before .before .args in
-    sym (not-ascends (variables (a .inits .now) (a .i) (a .n)) (l .j) (omega (arith, size (a .inits .now) (a .i) (a .n)))
-    (rw (place (a .inits .now) (a .i) (a .n) (l .j) (omega arith), place (a .inits .now) (a .i) (a .n) (l .j + 1) (omega arith)) (le-ltb _ _ (c .if1 .taken))))
+    sym (not-ascends (variables (a .inits .now) (a .i) (a .n)) (l .j) (omega (arith, column-length (a .inits .now) (a .i) (a .n) (λ xe. xe .0)))
+    (rw (column-get (a .inits .now) (a .i) (a .n) (λ xe. xe .0) (l .j) (omega arith), column-get (a .inits .now) (a .i) (a .n) (λ xe. xe .0) (l .j + 1) (omega arith)) (le-ltb _ _ (c .if1 .taken))))
 
 add-j : tie.Need-add-j Inv-loop μ-loop
 add-j c = search needs
@@ -88,14 +79,14 @@ loop-again c =
       omega arith,
       l .inv .1,
       rising-more (variables (a .inits .now) (a .i) (a .n)) (l .j) (l .inv .2)
-          (rw (place (a .inits .now) (a .i) (a .n) (l .j) (omega arith), place (a .inits .now) (a .i) (a .n) (l .j + 1) (omega arith)) (lt-ltb _ _ (c .if1 .left))),
+          (rw (column-get (a .inits .now) (a .i) (a .n) (λ xe. xe .0) (l .j) (omega arith), column-get (a .inits .now) (a .i) (a .n) (λ xe. xe .0) (l .j + 1) (omega arith)) (lt-ltb _ _ (c .if1 .left))),
     )
 
 returns-2 : tie.Need-returns-2 Inv-loop μ-loop
 returns-2 c =
     let l = c .before .loop in
     let a = c .before .before .before .args in
-    sym (rising-ascends (variables (a .inits .now) (a .i) (a .n)) (l .j) (omega (arith, size (a .inits .now) (a .i) (a .n))) (l .inv .2))
+    sym (rising-ascends (variables (a .inits .now) (a .i) (a .n)) (l .j) (omega (arith, column-length (a .inits .now) (a .i) (a .n) (λ xe. xe .0))) (l .inv .2))
 
 pub pairs-ascend-spec : {M : Type 1} → statement M
 pairs-ascend-spec =

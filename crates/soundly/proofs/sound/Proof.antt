@@ -6,7 +6,7 @@ use borrow.Author.Tests.{not-true, not-false}
 use Rattle.soundness.specs.Asked.{refers, lower, own, single, quiet, low}
 use Rattle.tables.specs.Decode.{programOf}
 use Rattle.faults.specs.Read.{counted, counting-small}
-use Rattle.fronts.specs.Asking.{told-program}
+use Rattle.faults.specs.Asking.{told-program}
 use Rattle.marks.specs.Marks.{stated-program, peopled-program}
 use Rattle.quietness.specs.Quiet.{told-states-program}
 use Rattle.soundly.specs.Soundly.{tabled-program, moving-program, few-kinds, all-there, met, unmet, no-order, no-size, no-reference, no-lowness, no-owner, no-single, no-quiet, no-height, all-but}
