@@ -3,9 +3,9 @@ use tables::Program;
 ghost use mathlib.Core.Path.{_≡_};
 ghost use Prim.Native.Nat.{_-_, min};
 ghost use lib.ListN.{length};
-ghost use Rattle.programs.specs.Sizes.{EXPRS};
 ghost use Rattle.beginnings.specs.Inits.{Cleared, InitsAsked, Begun};
 ghost use Rattle.beginnings.specs.Initial.{initialIn};
+ghost use Rattle.tables.specs.Decode.{PAIRS};
 
 // Where the bits begin in what an expression gives: above every value's number.
 const REST: u64 = 1099511627776;
@@ -26,15 +26,15 @@ fn index(x: u8) -> usize
 
 // How many of the n pairs from place i on the pool has.
 fn pairs_there(i: usize, n: usize) -> usize
-    ensures { λ r. ⌜ r ≡ min n (EXPRS - i) ⌝ }
+    ensures { λ r. ⌜ r ≡ min n (PAIRS - i) ⌝ }
 {
-    if Program::EXPRESSIONS <= i {
+    if Program::PAIRS <= i {
         return 0;
     }
-    if n <= Program::EXPRESSIONS - i {
+    if n <= Program::PAIRS - i {
         return n;
     }
-    Program::EXPRESSIONS - i
+    Program::PAIRS - i
 }
 
 // No value at all.
@@ -56,7 +56,7 @@ pub fn init_values<'a>(
     places: &[u8; Program::ALL_VARIABLES + 1],
     kinds: &'a [u16; Program::ALL_VARIABLES + 1],
     types: &'a [u8; Program::ALL_VARIABLES + 1],
-    inits: &[u16; 2 * Program::EXPRESSIONS],
+    inits: &[u16; 2 * Program::PAIRS],
     values: &[u64; (Program::VARIABLES + 3) * Program::ROOMS],
     out: &mut [u64; Program::VARIABLES + 3],
     k: usize,

@@ -75,7 +75,7 @@ pub fn new_on<'a, 'b>(
     variables: &'a [u16; Program::ALL_VARIABLES + 1],
     types: &'a [u8; Program::ALL_VARIABLES + 1],
     stmts: &[u16; 5 * (Program::STATEMENTS + 1)],
-    inits: &[u16; 2 * Program::EXPRESSIONS],
+    inits: &[u16; 2 * Program::PAIRS],
     owners: &'b [u8; Program::STATES + 1],
     entries: &'b [u16; Program::STATES + 1],
     ids: &mut [u32; Program::ROOMS],

@@ -11,7 +11,7 @@ ghost use Rattle.dispatch.specs.Dispatch.{stepOutcome};
 pub fn step_on<'a>(
     exprs: &[u32; 3 * (Program::EXPRESSIONS + 1)],
     stmts: &[u16; 5 * (Program::STATEMENTS + 1)],
-    inits: &[u16; 2 * Program::EXPRESSIONS],
+    inits: &[u16; 2 * Program::PAIRS],
     types: &[u8; Program::EVENTS + 1],
     owners: &'a [u16; Program::ALL_VARIABLES + 1],
     vartypes: &'a [u8; Program::ALL_VARIABLES + 1],

@@ -48,13 +48,13 @@ pub fn name_two(seen: &mut [u8; NUMBERS], x: u16, y: u16) -> bool
 // Names the expressions of the n pairs of an init list from place i on. Linear in the pairs.
 fn name_pairs(
     seen: &mut [u8; NUMBERS],
-    inits: &[u16; 2 * Program::EXPRESSIONS],
+    inits: &[u16; 2 * Program::PAIRS],
     i: usize,
     n: usize,
 ) -> bool
     ensures { λ r. ⌜ Named (now (seen .entry)) (map (λ xe. xe .1) (pairsOf (now (inits .entry)) i n)) r (now (seen .exit)) ⌝ }
 {
-    let m = rows_from(Program::EXPRESSIONS, i, n);
+    let m = rows_from(Program::PAIRS, i, n);
     let mut again = false;
     let mut j = 0;
     while j < m {
@@ -67,11 +67,7 @@ fn name_pairs(
 }
 
 // Names the expressions of a statement. Linear in its pairs.
-pub fn name_exprs(
-    seen: &mut [u8; NUMBERS],
-    h: Head,
-    inits: &[u16; 2 * Program::EXPRESSIONS],
-) -> bool
+pub fn name_exprs(seen: &mut [u8; NUMBERS], h: Head, inits: &[u16; 2 * Program::PAIRS]) -> bool
     ensures { λ r. ⌜ Named (now (seen .entry)) (exprsOf (stmtOf (now (inits .entry)) h)) r (now (seen .exit)) ⌝ }
 {
     match h {

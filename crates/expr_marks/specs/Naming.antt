@@ -21,7 +21,7 @@ use Rattle.programs.specs.Program.{Program, Stmt, skip, stmtAt}
 use Rattle.programs.specs.Trees.{operands, exprInside}
 use Rattle.programs.specs.Statements.{exprsOf, serves, holds, servesFrom, exprServes}
 use Rattle.tables.specs.declared.Head.{Head}
-use Rattle.tables.specs.Decode.{count, exprsOf as expressions, headAt, pairIn, pairsOf, stmtOf, stmtsOf}
+use Rattle.tables.specs.Decode.{count, exprsOf as expressions, headAt, pairIn, pairsOf, stmtOf, stmtsOf, PAIRS}
 use Rattle.tables.specs.Tables.{exprs-length, stmts-length, stmt-head}
 use Rattle.marks.specs.Sheet.{Marking, says-at, Sheet, sheet-none, sheet-more, marking}
 use Rattle.marks.specs.Marks.{Served}
@@ -247,7 +247,7 @@ pairs-first b n inits i m l =
     rw (p, q)
 
 -- and all
-pub pairs-done : (b n : ℕ) (inits : List ℕ) (i m j c : ℕ) (l l₀ : List ℕ) → m ≤ j → m ≡ min c (EXPRS - i) → markAll b n (pairNames inits (i + j) (m - j)) l ≡ markAll b n (pairNames inits i m) l₀
+pub pairs-done : (b n : ℕ) (inits : List ℕ) (i m j c : ℕ) (l l₀ : List ℕ) → m ≤ j → m ≡ min c (PAIRS - i) → markAll b n (pairNames inits (i + j) (m - j)) l ≡ markAll b n (pairNames inits i m) l₀
     → l ≡ markAll b n (map (λ xe. xe .1) (pairsOf inits i c)) l₀
 unfolding markAll table pairsOf
 pairs-done b n inits i m j c l l₀ h e f =

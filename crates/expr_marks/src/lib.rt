@@ -15,7 +15,7 @@ use tables::Program;
 
 // Marks the expressions of an init list that are lower than n. Costs one turn for each pair.
 fn mark_pairs(
-    inits: &[u16; 2 * Program::EXPRESSIONS],
+    inits: &[u16; 2 * Program::PAIRS],
     b: usize,
     n: usize,
     i: u16,
@@ -37,7 +37,7 @@ fn mark_pairs(
 
 // Marks the expressions that a statement names and that are lower than n.
 fn mark_named(
-    inits: &[u16; 2 * Program::EXPRESSIONS],
+    inits: &[u16; 2 * Program::PAIRS],
     b: usize,
     n: usize,
     h: Head,
@@ -64,7 +64,7 @@ fn mark_named(
 // Marks what statement s names, of x expressions, in the row that starts at b, where s is marked in that row of `served`.
 fn mark_root(
     stmts: &[u16; 5 * (Program::STATEMENTS + 1)],
-    inits: &[u16; 2 * Program::EXPRESSIONS],
+    inits: &[u16; 2 * Program::PAIRS],
     served: &[u8; (Program::KINDS + 1) * (Program::STATEMENTS + 1)],
     x: usize,
     b: usize,
@@ -83,7 +83,7 @@ fn mark_root(
 // Marks what each of n statements names.
 fn mark_roots(
     stmts: &[u16; 5 * (Program::STATEMENTS + 1)],
-    inits: &[u16; 2 * Program::EXPRESSIONS],
+    inits: &[u16; 2 * Program::PAIRS],
     served: &[u8; (Program::KINDS + 1) * (Program::STATEMENTS + 1)],
     x: usize,
     n: usize,
@@ -139,7 +139,7 @@ fn flow(
 pub fn expr_served(
     exprs: &[u32; 3 * (Program::EXPRESSIONS + 1)],
     stmts: &[u16; 5 * (Program::STATEMENTS + 1)],
-    inits: &[u16; 2 * Program::EXPRESSIONS],
+    inits: &[u16; 2 * Program::PAIRS],
     served: &[u8; (Program::KINDS + 1) * (Program::STATEMENTS + 1)],
 ) -> [u8; (Program::KINDS + 1) * (Program::STATEMENTS + 1)]
     ensures { λ r. ⌜ ((p : Lines) → p .exprs ≡ exprsOf (now (exprs .entry)) → p .stmts ≡ stmtsOf (now (stmts .entry)) (now (inits .entry)) → Served p (now (served .entry)) → ExprServed p r) ⌝ }

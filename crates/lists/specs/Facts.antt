@@ -78,6 +78,11 @@ test-sym f equal self a b = go (f a b) refl (f b a) refl
     go false e false g = refl
 
 module _ {A : Type 0} where
+  -- a fact of everything is one of every element
+  pub All-each : (P : A → Type 0) → ((x : A) → P x) → (l : List A) → All P l
+  All-each P f [] = tt
+  All-each P f (x ∷ l) = (f x, All-each P f l)
+
   pub All-map : (P Q : A → Type 0) (l : List A) → ((x : A) → P x → Q x) → All P l → All Q l
   All-map P Q [] f h = tt
   All-map P Q (x ∷ l) f h = (f x (h .0), All-map P Q l f (h .1))

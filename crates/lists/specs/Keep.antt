@@ -105,10 +105,14 @@ module _ {A B : Type 0} where
   map-set f (y ∷ l) zero x = refl
   map-set f (y ∷ l) (suc k) x = rw (map-set f l k x)
 
+  -- the rows of two lists
+  pub flat-append : (g : A → List B) (l m : List A) → flat g (l ++ m) ≡ flat g l ++ flat g m
+  flat-append g [] m = refl
+  flat-append g (x ∷ l) m = rw (flat-append g l m) (sym (append-assoc (g x) (flat g l) (flat g m)))
+
   -- one more row
   pub flat-snoc : (g : A → List B) (l : List A) (x : A) → flat g (l ++ x ∷ []) ≡ flat g l ++ g x
-  flat-snoc g [] x = append-nil (g x)
-  flat-snoc g (y ∷ l) x = rw (flat-snoc g l x) (sym (append-assoc (g y) (flat g l) (g x)))
+  flat-snoc g l x = rw (flat-append g l (x ∷ []), append-nil (g x))
 
   -- how long rows of one width are
   pub flat-length : (g : A → List B) (w : ℕ) (l : List A) → All (λ x. length (g x) ≡ w) l → length (flat g l) ≡ length l * w

@@ -98,7 +98,7 @@ fn exprs_lower(exprs: &[u32; 3 * (Program::EXPRESSIONS + 1)], seen: &mut [u8; NU
 // The first faulty row of the statements, and the marks of their expressions and of their parts. Linear in the statements and their pairs.
 fn stmts_lower(
     stmts: &[u16; 5 * (Program::STATEMENTS + 1)],
-    inits: &[u16; 2 * Program::EXPRESSIONS],
+    inits: &[u16; 2 * Program::PAIRS],
     seen: &mut [u8; NUMBERS],
     done: &mut [u8; NUMBERS],
 ) -> usize
@@ -168,7 +168,7 @@ pub fn lower<'a>(
     c: Counts,
     exprs: &'a [u32; 3 * (Program::EXPRESSIONS + 1)],
     stmts: &'a [u16; 5 * (Program::STATEMENTS + 1)],
-    inits: &'a [u16; 2 * Program::EXPRESSIONS],
+    inits: &'a [u16; 2 * Program::PAIRS],
     actors: &'a [u8; Program::ACTIONS + 1],
     bodies: &'a [u16; Program::ACTIONS + 1],
     states: &'a [u8; Program::STATES + 1],

@@ -10,12 +10,11 @@ use lib.ListN.{getD}
 use Rattle.lists.specs.Lists.{total}
 use Rattle.rows.specs.Pad.{below?}
 use Rattle.rows.specs.Seek.{table}
-use Rattle.programs.specs.Sizes.{EXPRS}
 use Rattle.programs.specs.Program.{Program}
 use Rattle.programs.specs.Trees.{tree, stars}
 use Rattle.programs.specs.Statements.{exprsOf}
 use Rattle.tables.specs.declared.Head.{Head}
-use Rattle.tables.specs.Decode.{pairIn, pairsOf, stmtOf}
+use Rattle.tables.specs.Decode.{pairIn, pairsOf, stmtOf, PAIRS}
 use Rattle.lowness.specs.Trees.{few, Few, ExprStars}
 
 -- the sum, no more than 9
@@ -89,9 +88,9 @@ pairs-more counts inits i m j s x r h k e f g =
     rw (p, q, ← e, ← f) g
 
 -- all
-pub pairs-all : (counts inits : List ℕ) (i m j s n : ℕ) → j ≤ 0 → m ≡ min n (EXPRS - i) → s ≡ pairStars counts inits (i + j) (m - j) → s ≡ fewTotal (counted counts) (map (λ xe. xe .1) (pairsOf inits i n))
+pub pairs-all : (counts inits : List ℕ) (i m j s n : ℕ) → j ≤ 0 → m ≡ min n (PAIRS - i) → s ≡ pairStars counts inits (i + j) (m - j) → s ≡ fewTotal (counted counts) (map (λ xe. xe .1) (pairsOf inits i n))
 unfolding pairsOf
 pairs-all counts inits i m j s n h e f =
     let p : i + j ≡ i = omega arith in
-    let q : m - j ≡ min n (EXPRS - i) = omega arith in
+    let q : m - j ≡ min n (PAIRS - i) = omega arith in
     rw (p, q) at f

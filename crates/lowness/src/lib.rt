@@ -120,7 +120,7 @@ fn stars_at(counts: &[u8; Program::EXPRESSIONS + 1], e: u16) -> u8
 // The stars of an init list. Costs one turn for each pair.
 fn init_stars(
     counts: &[u8; Program::EXPRESSIONS + 1],
-    inits: &[u16; 2 * Program::EXPRESSIONS],
+    inits: &[u16; 2 * Program::PAIRS],
     i: u16,
     n: u16,
 ) -> u8
@@ -142,7 +142,7 @@ fn init_stars(
 // The stars of a statement's expressions.
 fn stmt_stars(
     counts: &[u8; Program::EXPRESSIONS + 1],
-    inits: &[u16; 2 * Program::EXPRESSIONS],
+    inits: &[u16; 2 * Program::PAIRS],
     h: Head,
 ) -> u8
     requires { ⌜ Few (now counts) ⌝ }
@@ -180,7 +180,7 @@ fn low_stmt(
     heights: &[u16; Program::STATEMENTS + 1],
     counts: &[u8; Program::EXPRESSIONS + 1],
     stmts: &[u16; 5 * (Program::STATEMENTS + 1)],
-    inits: &[u16; 2 * Program::EXPRESSIONS],
+    inits: &[u16; 2 * Program::PAIRS],
     s: usize,
 ) -> bool
     requires { ⌜ (s ≤ 1024) × Few (now counts) ⌝ }
@@ -198,7 +198,7 @@ fn first_stmt(
     heights: &[u16; Program::STATEMENTS + 1],
     counts: &[u8; Program::EXPRESSIONS + 1],
     stmts: &[u16; 5 * (Program::STATEMENTS + 1)],
-    inits: &[u16; 2 * Program::EXPRESSIONS],
+    inits: &[u16; 2 * Program::PAIRS],
     n: usize,
 ) -> usize
     requires { ⌜ (n ≤ 1024) × Few (now counts) ⌝ }
@@ -222,7 +222,7 @@ pub fn low(
     variable_of: &[u16; Program::ALL_VARIABLES + 1],
     exprs: &[u32; 3 * (Program::EXPRESSIONS + 1)],
     stmts: &[u16; 5 * (Program::STATEMENTS + 1)],
-    inits: &[u16; 2 * Program::EXPRESSIONS],
+    inits: &[u16; 2 * Program::PAIRS],
     heights: &[u16; Program::STATEMENTS + 1],
 ) -> usize
     ensures { λ r. ⌜ ((p : Lines) → Told (now («event_types» .entry)) kinds (now («variable_of» .entry)) (now (exprs .entry)) (now (stmts .entry)) (now (inits .entry)) p → Heights p (now (heights .entry)) → r ≡ firstFault 1 (lines p (asked p))) ⌝ }

@@ -2,10 +2,9 @@
 ghost use mathlib.Core.Path.{_≡_};
 ghost use mathlib.Core.List.{List};
 ghost use Prim.Native.Nat.{ℕ, _+_, _-_, _*_, _≤_, _<_, min, max};
-ghost use Rattle.programs.specs.Sizes.{EXPRS};
 ghost use Rattle.programs.specs.Program.{Program as Lines};
 ghost use Rattle.programs.specs.Trees.{operands};
-ghost use Rattle.tables.specs.Decode.{actionsOf, statesOf};
+ghost use Rattle.tables.specs.Decode.{actionsOf, statesOf, PAIRS};
 ghost use Rattle.marks.specs.Marks.{Heights, Served, Stated, Peopled};
 ghost use Rattle.marks.specs.Inner.{listed, headParts, partsIn};
 ghost use Rattle.marks.specs.Tall.{lowAt, Low, Over};
@@ -47,15 +46,15 @@ pub fn operands_of(x: Expr) -> Inner
 
 // How many pairs there are of n from place i on: no further than the pool's end.
 pub fn pairs_from(i: usize, n: usize) -> usize
-    ensures { λ r. ⌜ r ≡ min n (EXPRS - i) ⌝ }
+    ensures { λ r. ⌜ r ≡ min n (PAIRS - i) ⌝ }
 {
-    if Program::EXPRESSIONS <= i {
+    if Program::PAIRS <= i {
         return 0;
     }
-    if n <= Program::EXPRESSIONS - i {
+    if n <= Program::PAIRS - i {
         n
     } else {
-        Program::EXPRESSIONS - i
+        Program::PAIRS - i
     }
 }
 

@@ -126,7 +126,7 @@ fn pair_refers(x: u16, e: u16, variables: usize, exprs: usize) -> bool
 
 // What the n pairs of an init list from place i on name is there. Linear in the pairs.
 fn pairs_refer(
-    inits: &[u16; 2 * Program::EXPRESSIONS],
+    inits: &[u16; 2 * Program::PAIRS],
     i: usize,
     n: usize,
     variables: usize,
@@ -134,7 +134,7 @@ fn pairs_refer(
 ) -> bool
     ensures { λ r. ⌜ ((p : Lines) → length (p .variables) ≡ variables → length (p .exprs) ≡ exprs → r ≡ each (pairRefers p) (pairsOf (now (inits .entry)) i n) .test) ⌝ }
 {
-    let m = rows_from(Program::EXPRESSIONS, i, n);
+    let m = rows_from(Program::PAIRS, i, n);
     let mut j = 0;
     while j < m {
         let x = inits[(i + j) * 2];
@@ -156,7 +156,7 @@ fn new_refers<'a>(
     c: Counts,
     owners: &'a [u16; Program::ALL_VARIABLES + 1],
     holds: &'a [u8; Program::ALL_VARIABLES + 1],
-    inits: &[u16; 2 * Program::EXPRESSIONS],
+    inits: &[u16; 2 * Program::PAIRS],
 ) -> bool
     ensures { λ r. ⌜ ((p : Lines) → Counted p c → p .variables ≡ variablesOf (now (owners .entry)) (now (holds .entry)) → r ≡ stmtRefers p (new x k (pairsOf (now (inits .entry)) i n)) .test) ⌝ }
 {
@@ -172,7 +172,7 @@ fn stmt_refers<'a>(
     c: Counts,
     owners: &'a [u16; Program::ALL_VARIABLES + 1],
     holds: &'a [u8; Program::ALL_VARIABLES + 1],
-    inits: &[u16; 2 * Program::EXPRESSIONS],
+    inits: &[u16; 2 * Program::PAIRS],
 ) -> bool
     ensures { λ r. ⌜ ((p : Lines) → Counted p c → p .variables ≡ variablesOf (now (owners .entry)) (now (holds .entry)) → r ≡ stmtRefers p (stmtOf (now (inits .entry)) h) .test) ⌝ }
 {
@@ -213,7 +213,7 @@ pub fn stmts_refer<'a>(
     c: Counts,
     owners: &'a [u16; Program::ALL_VARIABLES + 1],
     holds: &'a [u8; Program::ALL_VARIABLES + 1],
-    inits: &[u16; 2 * Program::EXPRESSIONS],
+    inits: &[u16; 2 * Program::PAIRS],
 ) -> usize
     ensures { λ r. ⌜ (r ≤ 1024) × ((p : Lines) → Counted p c → p .variables ≡ variablesOf (now (owners .entry)) (now (holds .entry)) → p .stmts ≡ stmtsOf (now (stmts .entry)) (now (inits .entry)) → r ≡ rowFault (refers p .stmt) (p .stmts)) ⌝ }
 {

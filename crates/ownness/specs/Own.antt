@@ -23,7 +23,7 @@ use Rattle.programs.specs.Statements.{serves, exprServes}
 use Rattle.tables.specs.declared.Kind.{Kind}
 use Rattle.tables.specs.declared.Head.{Head}
 use Rattle.tables.specs.declared.Head.the-variants.{Skip, Assign, New, Delete, Send, Raise, Leave, Return, Assert, Seq, If, While}
-use Rattle.tables.specs.Decode.{count, noVariable, variableIn, variablesOf, exprsOf, headAt, pairIn, pairsOf, stmtOf}
+use Rattle.tables.specs.Decode.{count, noVariable, variableIn, variablesOf, exprsOf, headAt, pairIn, pairsOf, stmtOf, PAIRS}
 use Rattle.tables.specs.Numbered.{at-row, at-past}
 use Rattle.tables.specs.Tables.{stmt-head}
 use Rattle.soundness.specs.Asked.{own, exprOwn, stmtOwn}
@@ -228,14 +228,14 @@ module _ (f : ℕ × ℕ → Bool) (inits : List ℕ) (i m : ℕ) where
       rw (p, q, e) at s
 
   -- one that does not
-  pub pair-found : (j c : ℕ) → j < m → m ≡ min c (EXPRS - i) → f (pairIn inits (i + j)) ≡ false → Pairing j → false ≡ all f (pairsOf inits i c)
+  pub pair-found : (j c : ℕ) → j < m → m ≡ min c (PAIRS - i) → f (pairIn inits (i + j)) ≡ false → Pairing j → false ≡ all f (pairsOf inits i c)
   unfolding table pairsOf
   pair-found j c h e k s =
       let p : m - j ≡ suc (m - (j + 1)) = omega arith in
       rw (p, k, e) at s
 
   -- none
-  pub pair-none : (j c : ℕ) → m ≤ j → m ≡ min c (EXPRS - i) → Pairing j → true ≡ all f (pairsOf inits i c)
+  pub pair-none : (j c : ℕ) → m ≤ j → m ≡ min c (PAIRS - i) → Pairing j → true ≡ all f (pairsOf inits i c)
   unfolding table pairsOf
   pair-none j c h e s =
       let p : m - j ≡ 0 = omega arith in

@@ -105,7 +105,7 @@ fn own_expr(
 // The variables of an init list are of kind m. Costs one turn for each pair.
 fn own_pairs(
     variable_of: &[u16; Program::ALL_VARIABLES + 1],
-    inits: &[u16; 2 * Program::EXPRESSIONS],
+    inits: &[u16; 2 * Program::PAIRS],
     m: u8,
     i: u16,
     c: u16,
@@ -131,7 +131,7 @@ fn own_stmt(
     kinds: usize,
     variable_of: &[u16; Program::ALL_VARIABLES + 1],
     stmts: &[u16; 5 * (Program::STATEMENTS + 1)],
-    inits: &[u16; 2 * Program::EXPRESSIONS],
+    inits: &[u16; 2 * Program::PAIRS],
     n: usize,
 ) -> bool
     requires { ⌜ (n ≤ 1024) × (kinds ≤ 16) ⌝ }
@@ -178,7 +178,7 @@ fn first_stmt(
     kinds: usize,
     variable_of: &[u16; Program::ALL_VARIABLES + 1],
     stmts: &[u16; 5 * (Program::STATEMENTS + 1)],
-    inits: &[u16; 2 * Program::EXPRESSIONS],
+    inits: &[u16; 2 * Program::PAIRS],
     n: usize,
 ) -> usize
     requires { ⌜ (n ≤ 1024) × (kinds ≤ 16) ⌝ }
@@ -202,7 +202,7 @@ pub fn own(
     variable_of: &[u16; Program::ALL_VARIABLES + 1],
     exprs: &[u32; 3 * (Program::EXPRESSIONS + 1)],
     stmts: &[u16; 5 * (Program::STATEMENTS + 1)],
-    inits: &[u16; 2 * Program::EXPRESSIONS],
+    inits: &[u16; 2 * Program::PAIRS],
     served: &[u8; (Program::KINDS + 1) * (Program::STATEMENTS + 1)],
 ) -> usize
     requires { ⌜ kinds ≤ 16 ⌝ }

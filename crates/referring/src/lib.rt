@@ -236,7 +236,7 @@ pub fn refers<'a>(
     holds: &'a [u8; Program::ALL_VARIABLES + 1],
     exprs: &'a [u32; 3 * (Program::EXPRESSIONS + 1)],
     stmts: &'a [u16; 5 * (Program::STATEMENTS + 1)],
-    inits: &'a [u16; 2 * Program::EXPRESSIONS],
+    inits: &'a [u16; 2 * Program::PAIRS],
     actors: &'a [u8; Program::ACTIONS + 1],
     bodies: &'a [u16; Program::ACTIONS + 1],
     states: &'a [u8; Program::STATES + 1],

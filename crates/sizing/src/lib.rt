@@ -58,10 +58,10 @@ fn none_void<'a>(
 }
 
 // The variables of the n pairs of an init list from place i on are ascending. Linear in the pairs.
-fn pairs_ascend(inits: &[u16; 2 * Program::EXPRESSIONS], i: usize, n: usize) -> bool
+fn pairs_ascend(inits: &[u16; 2 * Program::PAIRS], i: usize, n: usize) -> bool
     ensures { λ r. ⌜ r ≡ ascending (map (λ xe. xe .0) (pairsOf (now (inits .entry)) i n)) ⌝ }
 {
-    let m = rows_from(Program::EXPRESSIONS, i, n);
+    let m = rows_from(Program::PAIRS, i, n);
     let mut j = 0;
     while j + 1 < m {
         if inits[(i + (j + 1)) * 2] <= inits[(i + j) * 2] {
@@ -73,7 +73,7 @@ fn pairs_ascend(inits: &[u16; 2 * Program::EXPRESSIONS], i: usize, n: usize) -> 
 }
 
 // The variables of a statement's init list are ascending. Linear in its pairs.
-fn stmt_ascends(h: Head, inits: &[u16; 2 * Program::EXPRESSIONS]) -> bool
+fn stmt_ascends(h: Head, inits: &[u16; 2 * Program::PAIRS]) -> bool
     ensures { λ r. ⌜ r ≡ ascending (map (λ xe. xe .0) (initOf (stmtOf (now (inits .entry)) h))) ⌝ }
 {
     let Head::New(_, _, i, n) = h else {
@@ -85,7 +85,7 @@ fn stmt_ascends(h: Head, inits: &[u16; 2 * Program::EXPRESSIONS]) -> bool
 // Every init list is ascending. Linear in the statements and their pairs.
 fn all_ascend(
     stmts: &[u16; 5 * (Program::STATEMENTS + 1)],
-    inits: &[u16; 2 * Program::EXPRESSIONS],
+    inits: &[u16; 2 * Program::PAIRS],
 ) -> bool
     ensures { λ r. ⌜ ((p : Lines) → p .stmts ≡ stmtsOf (now (stmts .entry)) (now (inits .entry)) → r ≡ eqb (rowFault (orderly .stmt) (p .stmts)) 0) ⌝ }
 {
@@ -107,7 +107,7 @@ pub fn orderly<'a>(
     owners: &'a [u16; Program::ALL_VARIABLES + 1],
     holds: &'a [u8; Program::ALL_VARIABLES + 1],
     stmts: &'a [u16; 5 * (Program::STATEMENTS + 1)],
-    inits: &'a [u16; 2 * Program::EXPRESSIONS],
+    inits: &'a [u16; 2 * Program::PAIRS],
 ) -> bool
     ensures { λ r. ⌜ ((p : Lines) (states entries exits flags : List ℕ) → p .variables ≡ variablesOf (now (owners .entry)) (now (holds .entry)) → p .stmts ≡ stmtsOf (now (stmts .entry)) (now (inits .entry)) → p .states ≡ statesOf states entries exits flags → r ≡ meets p orderly .test) ⌝ }
 {

@@ -1,2 +1,2 @@
--- the passes, and what they tell together
+-- what the tests of a program tell together
 pub mod Soundly

@@ -166,7 +166,7 @@ fn program() -> Program {
         variable_type: [0; Program::ALL_VARIABLES + 1],
         exprs: [0; 3 * (Program::EXPRESSIONS + 1)],
         stmts: [0; 5 * (Program::STATEMENTS + 1)],
-        inits: [0; 2 * Program::EXPRESSIONS],
+        inits: [0; 2 * Program::PAIRS],
         action_of: [0; Program::ACTIONS + 1],
         action_body: [0; Program::ACTIONS + 1],
         state_of: state_of,

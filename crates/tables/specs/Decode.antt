@@ -134,9 +134,13 @@ headAt l s = at Skip (headsOf l) s
 abbrev pub pairIn : List ℕ → ℕ → ℕ × ℕ
 pairIn inits j = (getD inits (j * 2) 0, getD inits (j * 2 + 1) 0)
 
--- n pairs from place i on, as far as the pool goes: as many pairs as expressions
+-- as many pairs as are held: more than any text has
+abbrev pub PAIRS : ℕ
+PAIRS = 15000
+
+-- n pairs from place i on, as far as the pool goes
 unfoldable pub pairsOf : List ℕ → ℕ → ℕ → List (ℕ × ℕ)
-pairsOf inits i n = table (pairIn inits) i (min n (EXPRS - i))
+pairsOf inits i n = table (pairIn inits) i (min n (PAIRS - i))
 
 -- a statement with its init list
 abbrev pub stmtOf : List ℕ → Head → Stmt

@@ -19,7 +19,7 @@ use Rattle.programs.specs.declared.Leaf.the-variants.{Bot as bot}
 use Rattle.programs.specs.declared.Expr.the-variants.{Leaf as leaf}
 use Rattle.tables.specs.declared.Head.the-variants.{Skip}
 use Rattle.tables.specs.declared.Program.{Program as Tables}
-use Rattle.tables.specs.Decode.{count, eventsOf, noVariable, variablesOf, exprsOf, headsOf, headAt, stmtOf, stmtsOf}
+use Rattle.tables.specs.Decode.{count, eventsOf, noVariable, variablesOf, exprsOf, headsOf, headAt, stmtOf, stmtsOf, PAIRS}
 use Rattle.tables.specs.Decode.{pairIn, pairsOf, noAction, actionsOf, flag, deferOf, noState, statesOf, programOf}
 
 -- STATEMENTS
@@ -100,21 +100,21 @@ noPair = (0, 0)
 
 module _ (inits : List ℕ) (i n : ℕ) where
   -- as many pairs as the pool has from place i on
-  pub pairs-length : length (pairsOf inits i n) ≡ min n (EXPRS - i)
+  pub pairs-length : length (pairsOf inits i n) ≡ min n (PAIRS - i)
   unfolding pairsOf
-  pairs-length = table-length (pairIn inits) i (min n (EXPRS - i))
+  pairs-length = table-length (pairIn inits) i (min n (PAIRS - i))
 
   -- the one in place j
-  pub pairs-get : (j : ℕ) → j < min n (EXPRS - i) → getD (pairsOf inits i n) j noPair ≡ pairIn inits (i + j)
+  pub pairs-get : (j : ℕ) → j < min n (PAIRS - i) → getD (pairsOf inits i n) j noPair ≡ pairIn inits (i + j)
   unfolding pairsOf
-  pairs-get j h = table-get (pairIn inits) noPair i (min n (EXPRS - i)) j h
+  pairs-get j h = table-get (pairIn inits) noPair i (min n (PAIRS - i)) j h
 
   -- What a function reads off the pairs: as many,
-  pub column-length : (f : ℕ × ℕ → ℕ) → length (map f (pairsOf inits i n)) ≡ min n (EXPRS - i)
+  pub column-length : (f : ℕ × ℕ → ℕ) → length (map f (pairsOf inits i n)) ≡ min n (PAIRS - i)
   column-length f = length-map (pairsOf inits i n) f ∙ pairs-length
 
   -- and the one of the pair in place j.
-  pub column-get : (f : ℕ × ℕ → ℕ) (j : ℕ) → j < min n (EXPRS - i) → getD (map f (pairsOf inits i n)) j (f noPair) ≡ f (pairIn inits (i + j))
+  pub column-get : (f : ℕ × ℕ → ℕ) (j : ℕ) → j < min n (PAIRS - i) → getD (map f (pairsOf inits i n)) j (f noPair) ≡ f (pairIn inits (i + j))
   column-get f j h = List·getD-map f (pairsOf inits i n) j noPair ∙ ap f (pairs-get j h)
 
 -- WHAT A STATE DEFERS

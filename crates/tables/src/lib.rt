@@ -26,7 +26,7 @@ pub struct Program {
     // rows of five: kind, x, y, z, n
     pub stmts: [u16; 5 * (Program::STATEMENTS + 1)],
     // pairs of a variable and an expression; a `new` has the place z of its first pair, from 0, and the number n of its pairs
-    pub inits: [u16; 2 * Program::EXPRESSIONS],
+    pub inits: [u16; 2 * Program::PAIRS],
     pub action_of: [u8; Program::ACTIONS + 1],
     pub action_body: [u16; Program::ACTIONS + 1],
     pub state_of: [u8; Program::STATES + 1],
@@ -44,6 +44,9 @@ pub struct Program {
 
 // The sizes, written once.
 impl Program {
+    // bytes of a text
+    pub const TEXT: usize = 60000;
+
     pub const EVENTS: usize = 64;
 
     pub const KINDS: usize = 16;
@@ -55,6 +58,9 @@ impl Program {
     pub const EXPRESSIONS: usize = 1024;
 
     pub const STATEMENTS: usize = 1024;
+
+    // a text has fewer pairs than a quarter of its bytes
+    pub const PAIRS: usize = 15000;
 
     pub const ACTIONS: usize = 64;
 

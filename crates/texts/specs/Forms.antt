@@ -128,11 +128,11 @@ abbrev pairsAt : List Val → ℕ → List (ℕ × ℕ)
 pairsAt v i = pairsAtIn (getD v i (aNumber 0))
 
 -- "bool 0 or 1"
-abbrev isOne : ℤ → Bool
+abbrev pub isOne : ℤ → Bool
 isOne z = eqInt z (pos 1)
 
 -- 0 or 1
-abbrev zeroOrOne : ℤ → Bool
+abbrev pub zeroOrOne : ℤ → Bool
 zeroOrOne z = eqInt z (pos 0) || isOne z
 
 -- THE FORMS, in the order in which the kinds come, and what a line in each says. "A missing `bits` counts as 0." A void variable is in no form.

@@ -4,5 +4,7 @@ pub mod Numbers
 pub mod Forms
 pub mod Reading
 pub mod Answered
+-- the answers 4 to 9 apart from what is loaded
+pub mod Verdict
 -- small texts and their answers
 pub mod Examples

@@ -13,16 +13,16 @@ use Rattle.soundness.specs.Asked.{ascending}
 use Rattle.texts.specs.Bytes.{bytes, same, split, both, each, only}
 
 -- '0' to '9'
-abbrev digit : ℕ → Bool
+abbrev pub digit : ℕ → Bool
 digit b = leb 48 b && leb b 57
 
 -- the number that digits say, after v
-abbrev value : ℕ → List ℕ → ℕ
+abbrev pub value : ℕ → List ℕ → ℕ
 value v [] = v
 value v (b ∷ d) = value (10 * v + (b - 48)) d
 
 -- some digits, and no zero in front of another
-abbrev plain : List ℕ → Bool
+abbrev pub plain : List ℕ → Bool
 plain [] = false
 plain (b ∷ []) = true
 plain (b ∷ c ∷ d) = not (eqb b 48)
@@ -32,12 +32,12 @@ abbrev pub decimal : List ℕ → Option ℕ
 decimal d = cond (plain d && all digit d) (some (value 0 d)) none
 
 -- with a minus or without: '-' is 45
-abbrev minus : Option ℕ → Option ℤ
+abbrev pub minus : Option ℕ → Option ℤ
 minus none = none
 minus (some n) = cond (eqb n 0) none (some (negℤ (pos n)))
 
 -- without a minus
-abbrev plus : Option ℕ → Option ℤ
+abbrev pub plus : Option ℕ → Option ℤ
 plus none = none
 plus (some n) = some (pos n)
 
@@ -55,7 +55,7 @@ abbrev pub numbers : List ℕ → Option (List ℕ)
 numbers d = only ascending (listed decimal d)
 
 -- `3:7` (':' is 58)
-abbrev two : List (List ℕ) → Option (ℕ × ℕ)
+abbrev pub two : List (List ℕ) → Option (ℕ × ℕ)
 two [] = none
 two (a ∷ []) = none
 two (a ∷ b ∷ []) = both (decimal a) (decimal b)

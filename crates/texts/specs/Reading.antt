@@ -89,7 +89,7 @@ programOf (tables es ms vs xs ss acs ns ts cs ds ks hs) k =
     (record { events = reverse es; machines = ms; variables = reverse vs; exprs = reverse xs; stmts = reverse ss; actions = reverse acs; states = reverse ns; steps = reverse ts; calls = reverse cs; acts = reverse ds; start = k }, reverse hs)
 
 -- the `start` lines
-abbrev startsOf : Tables → List ℕ
+abbrev pub startsOf : Tables → List ℕ
 startsOf (tables es ms vs xs ss acs ns ts cs ds ks hs) = ks
 
 -- a text is loaded, or refused with an answer and a line

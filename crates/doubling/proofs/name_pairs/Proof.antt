@@ -17,7 +17,7 @@ abbrev exprs : List ℕ → ℕ → ℕ → List ℕ
 exprs inits i n = map (λ xe. xe .1) (pairsOf inits i n)
 
 abbrev Inv-loop : tie.InvT-loop
-Inv-loop seen₀ inits i n m again₀ j₀ seen again j = (j ≤ m) × (m ≡ min n (1024 - i)) × Named seen₀ (take j (exprs inits i n)) again seen
+Inv-loop seen₀ inits i n m again₀ j₀ seen again j = (j ≤ m) × (m ≡ min n (15000 - i)) × Named seen₀ (take j (exprs inits i n)) again seen
 
 abbrev μ-loop : tie.MeasureT-loop
 μ-loop seen₀ inits i n m again₀ j₀ seen again j = m - j

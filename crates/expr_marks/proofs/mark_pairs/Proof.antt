@@ -10,7 +10,7 @@ use Rattle.expr_marks.proofs.mark_pairs.Tie as tie
 
 abbrev Inv-loop : tie.InvT-loop
 Inv-loop inits b n i c marks₀ a m j₀ marks j =
-    (j ≤ m) × (m ≤ 1024 - a) × (markAll b n (pairNames inits (a + j) (m - j)) marks ≡ markAll b n (pairNames inits a m) marks₀)
+    (j ≤ m) × (m ≤ 15000 - a) × (markAll b n (pairNames inits (a + j) (m - j)) marks ≡ markAll b n (pairNames inits a m) marks₀)
 
 abbrev μ-loop : tie.MeasureT-loop
 μ-loop inits b n i c marks₀ a m j₀ marks j = m - j

@@ -8,7 +8,7 @@ use Rattle.lowness.proofs.init_stars.Statement.{statement}
 use Rattle.lowness.proofs.init_stars.Tie as tie
 
 abbrev Inv-loop : tie.InvT-loop
-Inv-loop counts inits i n a m j₀ sum₀ j sum = (j ≤ m) × (m ≤ 1024 - a) × (sum ≤ 9) × (sum ≡ pairStars counts inits (a + j) (m - j))
+Inv-loop counts inits i n a m j₀ sum₀ j sum = (j ≤ m) × (m ≤ 15000 - a) × (sum ≤ 9) × (sum ≡ pairStars counts inits (a + j) (m - j))
 
 abbrev μ-loop : tie.MeasureT-loop
 μ-loop counts inits i n a m j₀ sum₀ j sum = j

@@ -17,13 +17,13 @@ use Rattle.naming.proofs.pairs_refer.Statement.{statement}
 use Rattle.naming.proofs.pairs_refer.Tie as tie
 
 -- what is tested of pair j
-tested : (p : Lines) (inits : List ℕ) (i n j variables exprs : ℕ) {r : Bool} → length (p .variables) ≡ variables → length (p .exprs) ≡ exprs → j < min n (1024 - i)
+tested : (p : Lines) (inits : List ℕ) (i n j variables exprs : ℕ) {r : Bool} → length (p .variables) ≡ variables → length (p .exprs) ≡ exprs → j < min n (15000 - i)
     → r ≡ there variables (getD inits ((i + j) * 2) 0) && there exprs (getD inits ((i + j) * 2 + 1) 0)
     → pairRefers p (getD (pairsOf inits i n) j noPair) .test ≡ r
 tested p inits i n j variables exprs v e h q = rw (pairs-get inits i n j h, v, e) (sym q)
 
 abbrev Inv-loop : tie.InvT-loop
-Inv-loop inits i n variables exprs m j₀ j = (j ≤ m) × (m ≡ min n (1024 - i)) × ((p : Lines) → length (p .variables) ≡ variables → length (p .exprs) ≡ exprs → Passing (pairRefers p) noPair (pairsOf inits i n) j)
+Inv-loop inits i n variables exprs m j₀ j = (j ≤ m) × (m ≡ min n (15000 - i)) × ((p : Lines) → length (p .variables) ≡ variables → length (p .exprs) ≡ exprs → Passing (pairRefers p) noPair (pairsOf inits i n) j)
 
 abbrev μ-loop : tie.MeasureT-loop
 μ-loop inits i n variables exprs m j₀ j = m - j

@@ -7,7 +7,7 @@ use Rattle.ownness.proofs.own_pairs.Statement.{statement}
 use Rattle.ownness.proofs.own_pairs.Tie as tie
 
 abbrev Inv-loop : tie.InvT-loop
-Inv-loop variable-of inits m i c a n j₀ j = (j ≤ n) × (n ≤ 1024 - a) × Pairing (ownPair variable-of m) inits a n j
+Inv-loop variable-of inits m i c a n j₀ j = (j ≤ n) × (n ≤ 15000 - a) × Pairing (ownPair variable-of m) inits a n j
 
 abbrev μ-loop : tie.MeasureT-loop
 μ-loop variable-of inits m i c a n j₀ j = n - j

@@ -16,7 +16,7 @@ abbrev variables : List ℕ → ℕ → ℕ → List ℕ
 variables inits i n = map (λ xe. xe .0) (pairsOf inits i n)
 
 abbrev Inv-loop : tie.InvT-loop
-Inv-loop inits i n m j₀ j = (j ≤ m) × (m ≡ min n (1024 - i)) × Rising (variables inits i n) j
+Inv-loop inits i n m j₀ j = (j ≤ m) × (m ≡ min n (15000 - i)) × Rising (variables inits i n) j
 
 abbrev μ-loop : tie.MeasureT-loop
 μ-loop inits i n m j₀ j = m - j

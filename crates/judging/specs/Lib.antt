@@ -1,0 +1,2 @@
+-- the passes in the code's order
+pub mod Judging

@@ -1,0 +1,2 @@
+-- a word of a line, and its laws
+pub mod Words

@@ -1,0 +1,10 @@
+-- reading from a place of the text on
+pub mod Turns
+-- the order of the lines, and their bytes
+pub mod Order
+-- the loop over the lines
+pub mod Loop
+-- one line read
+pub mod LineRead
+-- all of them
+pub mod Whole

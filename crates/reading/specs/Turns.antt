@@ -1,0 +1,88 @@
+-- The definition's reading of a text (crates/texts), from a place of the text on: line by line, as a loop over the places does it.
+use Prim.Native.Nat.{ℕ, _+_, _-_, _≤_, _<_}
+use mathlib.Core.Path.{_≡_, refl, ap, sym, _∙_}
+use mathlib.Core.Option.{Option, none, some}
+use mathlib.Core.Bool.{Bool, true, false, cond}
+use mathlib.Core.List.{List, [], _∷_}
+use native.Mathlib.Omega.{arith}
+use lib.Dec.{eqb}
+use lib.ListN.{length, drop-of-length-le}
+use Rattle.lists.specs.Lists.{onOpt}
+use Rattle.answers.specs.declared.Answer.the-variants.{NotInForm, OutOfRange}
+use Rattle.texts.specs.Bytes.{LF, split, before}
+use Rattle.texts.specs.Forms.{Said, said}
+use Rattle.texts.specs.Reading.{Tables, nothing, put, kind, ordered, ranged, Result, refused, whole, reading}
+use Rattle.numerals.specs.Splits.{span, Until, span-length, span-rest, span-whole, split-next, split-end}
+
+-- THE REST of the reading: the lines from place i on, of which the first is line k, after the lines a, the last of which is of kind `last`
+abbrev pub readFrom : List ℕ → ℕ → Tables → ℕ → ℕ → Result
+readFrom s last a k i = reading last a k (split LF (span i (length s) s))
+
+-- a line x in the form, with more behind it
+abbrev pub readLine : ℕ → Tables → ℕ → Said → Result → Result
+readLine last a k x after = cond (ordered last x) (cond (ranged a x) after (refused OutOfRange k)) (refused NotInForm k)
+
+-- at first
+pub read-first : (s : List ℕ) → reading 0 nothing 1 (split LF s) ≡ readFrom s 0 nothing 1 0
+read-first s = ap (λ (l : List ℕ). reading 0 nothing 1 (split LF l)) (sym (span-whole s))
+
+-- there is always a part
+split-some : (s : List ℕ) → (m : List ℕ) × (ls : List (List ℕ)) × (split LF s ≡ m ∷ ls)
+split-some [] = ([], [], refl)
+split-some (b ∷ s) = go (eqb b LF) (split-some s)
+  where
+    go : (t : Bool) → (m : List ℕ) × (ls : List (List ℕ)) × (split LF s ≡ m ∷ ls) → (m : List ℕ) × (ls : List (List ℕ)) × (cond t ([] ∷ split LF s) (before b (split LF s)) ≡ m ∷ ls)
+    go true r = ([], split LF s, refl)
+    go false r = (b ∷ r .0, r .1, ap (before b) (r .2))
+
+module _ (s : List ℕ) (last : ℕ) (a : Tables) (k i : ℕ) where
+  -- AT THE END: all lines are read
+  pub read-end : length s ≤ i → readFrom s last a k i ≡ whole a k
+  read-end h = ap (λ (l : List ℕ). reading last a k (split LF l)) (span-rest i s ∙ drop-of-length-le s h)
+
+  module _ (e : ℕ) (u : Until LF s i (length s) e) where
+    -- A LAST LINE WITHOUT ITS LF
+    pub read-cut : i < length s → length s ≤ e → readFrom s last a k i ≡ refused NotInForm k
+    read-cut h l =
+        ap (reading last a k) (split-end LF s i (length s) e (omega arith) u l)
+        ∙ go (span i e s) (omega (arith, span-length i e s (omega (arith, u .high)), u .high))
+      where
+        go : (l : List ℕ) → 0 < length l → reading last a k (l ∷ []) ≡ refused NotInForm k
+        go [] h = absurd (omega arith)
+        go (b ∷ l) h = refl
+
+    -- A LINE with its LF
+    next : e < length s → (m : List ℕ) (ls : List (List ℕ)) → split LF (span (e + 1) (length s) s) ≡ m ∷ ls → (l : List ℕ)
+        → reading last a k (l ∷ split LF (span (e + 1) (length s) s))
+        ≡ onOpt (said l) (refused NotInForm k) (λ x. readLine last a k x (readFrom s (kind x) (put x a) (k + 1) (e + 1)))
+    next h m ls q l = rw q (go l)
+      where
+        go : (l : List ℕ) → reading last a k (l ∷ m ∷ ls) ≡ onOpt (said l) (refused NotInForm k) (λ x. readLine last a k x (reading (kind x) (put x a) (k + 1) (m ∷ ls)))
+        go [] = refl
+        go (b ∷ l) = refl
+
+    pub read-next : e < length s
+        → readFrom s last a k i ≡ onOpt (said (span i e s)) (refused NotInForm k) (λ x. readLine last a k x (readFrom s (kind x) (put x a) (k + 1) (e + 1)))
+    read-next h =
+        let r = split-some (span (e + 1) (length s) s) in
+        ap (reading last a k) (split-next LF s i (length s) e (omega arith) u h) ∙ next h (r .0) (r .1) (r .2) (span i e s)
+
+    -- in no form
+    pub read-formless : e < length s → said (span i e s) ≡ none → readFrom s last a k i ≡ refused NotInForm k
+    read-formless h n = read-next h ∙ ap (λ (o : Option Said). onOpt o (refused NotInForm k) (λ x. readLine last a k x (readFrom s (kind x) (put x a) (k + 1) (e + 1)))) n
+
+    module _ (h : e < length s) (x : Said) (q : said (span i e s) ≡ some x) where
+      line : readFrom s last a k i ≡ readLine last a k x (readFrom s (kind x) (put x a) (k + 1) (e + 1))
+      line = read-next h ∙ ap (λ (o : Option Said). onOpt o (refused NotInForm k) (λ y. readLine last a k y (readFrom s (kind y) (put y a) (k + 1) (e + 1)))) q
+
+      -- out of order
+      pub read-disordered : ordered last x ≡ false → readFrom s last a k i ≡ refused NotInForm k
+      read-disordered o = line ∙ rw o
+
+      -- out of range
+      pub read-unranged : ordered last x ≡ true → ranged a x ≡ false → readFrom s last a k i ≡ refused OutOfRange k
+      read-unranged o r = line ∙ rw (o, r)
+
+      -- read: one line more
+      pub read-on : ordered last x ≡ true → ranged a x ≡ true → readFrom s last a k i ≡ readFrom s (kind x) (put x a) (k + 1) (e + 1)
+      read-on o r = line ∙ rw (o, r)

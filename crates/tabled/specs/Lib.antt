@@ -1,0 +1,2 @@
+-- the tables that hold a program, and what a text is loaded as
+pub mod Tabled

@@ -1,0 +1,2 @@
+-- what a line says, by its form and places
+pub mod Told
