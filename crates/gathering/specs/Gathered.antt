@@ -1,15 +1,11 @@
 -- The lines of a text so far, the first first, and the arrays and numbers that hold them while the loader reads on.
-use Prim.Native.Nat.{ℕ, suc, _+_, _*_, _≤_, _<_}
-use mathlib.Core.Path.{_≡_, refl}
-use mathlib.Core.List.{List, [], _++_, reverse}
-use lib.ListN.{length, getD}
-use Rattle.lists.specs.Lists.{All, There, flat, keep}
+use Prim.Native.Nat.{ℕ, _+_}
+use mathlib.Core.List.{List, _++_, reverse}
 use Rattle.values.specs.declared.Ty.{Ty}
 use Rattle.programs.specs.declared.Expr.{Expr}
-use Rattle.programs.specs.Program.{Variable, Stmt, Action, State, Move, isOf}
+use Rattle.programs.specs.Program.{Variable, Stmt, Action, State, Move}
 use Rattle.machines.specs.Config.{Choice}
 use Rattle.texts.specs.Reading.{Tables, tables}
-use Rattle.tabled.specs.Tabled.{eventTable, variableKinds, variableTypes, exprTable, stmtTable, initPool, initsOf, actionKinds, actionBodies, stateKinds, stateEntries, stateExits, deferTable, moveTable, choiceTable}
 
 -- THE LINES SO FAR
 abbrev pub eventLines : Tables → List Ty

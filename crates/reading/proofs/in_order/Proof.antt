@@ -1,7 +1,5 @@
 -- `reading::in_order` meets its contract. Assumes nothing.
-use mathlib.Core.Path.{sym, _∙_}
 use borrow.Author.Tests.{eq-eqb, ne-eqb}
-use borrow.Author.Needs.{needs}
 use Rattle.reading.proofs.in_order.Statement.{statement}
 use Rattle.reading.proofs.in_order.Tie as tie
 

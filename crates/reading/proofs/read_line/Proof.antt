@@ -1,14 +1,11 @@
 -- `reading::read_line` meets its contract: the line is found, recognised, tested and taken. Assumes nothing.
-use Prim.Native.Nat.{ℕ}
-use mathlib.Core.Path.{_≡_, ap, sym, _∙_, subst}
-use mathlib.Core.Bool.{cond}
+use mathlib.Core.Path.{sym, _∙_}
 use native.Mathlib.Omega.{arith}
 use borrow.Author.Needs.{needs}
 use borrow.Author.Tests.{not-true, not-false}
-use lib.Dec.{eqb, leb, ltb}
 use Rattle.forms.specs.Values.{line-none}
 use Rattle.reading.specs.Turns.{read-cut, read-formless, read-disordered}
-use Rattle.reading.specs.Loop.{Turned, line-at}
+use Rattle.reading.specs.Loop.{line-at}
 use Rattle.reading.specs.LineRead.{says, line-asked, line-unranged, line-read, ordered-told}
 use Rattle.reading.proofs.read_line.Statement.{statement}
 use Rattle.reading.proofs.read_line.Tie as tie
