@@ -25,7 +25,7 @@ use Rattle.loaded.specs.Fitting.{Prepared, prepared}
 
 -- THE PASSES
 -- Every pass is met, and every kind has a state.
-abbrev Passed : Program → List (Answer × Asked) → Type 0
+abbrev pub Passed : Program → List (Answer × Asked) → Type 0
 Passed p [] = stateful p .Holds
 Passed p (t ∷ ts) = meets p (t .1) .Holds × Passed p ts
 
@@ -55,7 +55,7 @@ judge-loads (loaded q d) p c e = let h = loads-passed q d (passes q) p c e in (r
 judge-loads (refused a k) p c e = let z : _≡_ {A = ℕ} 0 1 = cc in absurd (omega arith)
 
 -- So it is with the text that is answered by loading it: it is not too long.
-loads-judged : (t : List ℕ) (p : Program) (c : List Choice) → answered t ≡ loaded p c → (reading 0 nothing 1 (split LF t) ≡ loaded p c) × Passed p (passes p)
+pub loads-judged : (t : List ℕ) (p : Program) (c : List Choice) → answered t ≡ loaded p c → (reading 0 nothing 1 (split LF t) ≡ loaded p c) × Passed p (passes p)
 unfolding answered
 loads-judged t p c e = go (ltb TEXT (length t)) e
   where

@@ -8,3 +8,5 @@ pub mod Loop
 pub mod LineRead
 -- all of them
 pub mod Whole
+-- and so no text has too many moves and pairs
+pub mod Bounded

@@ -1,0 +1,1 @@
+// What is loaded is never refused with 20: specs/LoadedFits.antt.
