@@ -67,17 +67,21 @@ def compare(texts: List[Tuple[str, bytes]]) -> bool:
 
 
 def write(count: int, seed: int) -> None:
-    """Writes small texts with their answers into the crate that the gate runs."""
+    """Writes small texts with their answers into the crate that the gate runs: a third at most are loaded, and a sixth at most have any one refusal."""
     crate = ROOT / "crates" / "load_texts"
     data = crate / "data"
     data.mkdir(exist_ok=True)
     for old in data.iterdir():
         old.unlink()
     names, lines, index = [], [], 0
+    given: Counter = Counter()
     while len(names) < count:
         text = generate.make_text(seed, index).content
         index += 1
-        if len(text) <= SMALL:
+        answer = answered(text).split()[0]
+        room = count // 3 if answer == "answer=0" else count // 6
+        if len(text) <= SMALL and given[answer] < room:
+            given[answer] += 1
             name = f"{len(names) + 1:03}.txt"
             (data / name).write_bytes(text)
             names.append(name)
