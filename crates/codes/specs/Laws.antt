@@ -28,7 +28,7 @@ int-code-small (pos n) h = omega (arith, ltb-true n 2147483648 h)
 int-code-small (negsuc n) h = omega arith
 
 -- and reads as the int
-int-back : (z : ℤ) → inRange z ≡ true → intOf (intCode z) ≡ z
+pub int-back : (z : ℤ) → inRange z ≡ true → intOf (intCode z) ≡ z
 int-back (pos n) h = rw (le-ltb (n + 2147483648) 2147483648 (omega arith)) (ap pos (omega arith))
 int-back (negsuc n) h =
     let k = ltb-true n 2147483648 h in

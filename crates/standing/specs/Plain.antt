@@ -1,5 +1,5 @@
 -- The events, the variables, the expressions, the actions and the moves of a program, read back from their tables.
-use Prim.Native.Nat.{ℕ, _+_, _-_, _*_, _/_, _%_, _≤_, _<_, min}
+use Prim.Native.Nat.{ℕ, _+_, _-_, _*_, _≤_, _<_, min}
 use mathlib.Core.Path.{_≡_, refl, ap, _∙_}
 use mathlib.Core.Bool.{true, false}
 use mathlib.Core.List.{List, [], _∷_, _++_, map}
@@ -11,9 +11,6 @@ use Rattle.lists.specs.Facts.{All-at}
 use Rattle.rows.specs.Pad.{pad}
 use Rattle.values.specs.declared.Ty.{Ty}
 use Rattle.values.specs.declared.Ty.the-variants.{Void as void, Bool as bool, Int as int, Event as event, Id as id}
-use Rattle.values.specs.declared.Value.the-variants.{Int as vint}
-use Rattle.values.specs.Values.{inRange}
-use Rattle.values.specs.Words.{intOf}
 use Rattle.values.specs.declared.Unary.the-variants.{Not as not′, Neg as neg}
 use Rattle.values.specs.declared.Binary.the-variants.{Add as add, Sub as sub, And as and, Or as or}
 use Rattle.programs.specs.Sizes.{KINDS, EVENTS, VARIABLES, EXPRS, ACTIONS}
@@ -23,8 +20,7 @@ use Rattle.programs.specs.declared.Expr.{Expr}
 use Rattle.programs.specs.declared.Expr.the-variants.{Leaf as leaf, Unary as unary, Binary as binary}
 use Rattle.programs.specs.Program.{Program, Variable, Action, Move}
 use Rattle.soundness.specs.Sound.{leafRanged, exprRanged}
-use Rattle.codes.specs.Codes.{intCode, codeOf, valueOf}
-use Rattle.codes.specs.Laws.{int-code-small, value-code}
+use Rattle.codes.specs.Laws.{int-back}
 use Rattle.tables.specs.Decode.{byte, short, tyOf, eventsOf, noVariable, variablesOf, exprOf, exprIn, exprsOf, noAction, actionsOf, MOVES, moveIn, movesOf}
 use Rattle.faults.specs.Read.{noMove}
 use Rattle.tabled.specs.Tabled.{wordOf, byteOf, tyCode, eventTable, variableKinds, variableTypes, leafRow, exprRow, exprTable, actionKinds, actionBodies, moveRow, moveTable}
@@ -84,17 +80,6 @@ moves-read before ms behind h =
     cell : (i : ℕ) → i < length ms → (j k : ℕ) → j < 3 → k ≡ (length before + i) * 3 + j
         → getD (pad 0 12288 (flat moveRow (before ++ (ms ++ behind)))) k 0 ≡ getD (moveRow (getD ms i noMove)) j 0
     cell i b j k h e = row-within moveRow 3 noMove (λ x. refl) 12288 before ms behind i j k b h e
-
--- EXPRESSIONS
--- an int's number reads as the int, as that of its value does
-int-back : (z : ℤ) → inRange z ≡ true → intOf (intCode z) ≡ z
-unfolding valueOf
-int-back z h =
-    let s = int-code-small z h in
-    let t : codeOf (vint z) / 4294967296 ≡ 2 = omega arith in
-    let r : codeOf (vint z) % 4294967296 ≡ intCode z = omega arith in
-    let e : vint (intOf (intCode z)) ≡ vint z = rw (t, r) at (value-code (vint z) h) in
-    cc
 
 -- a row read
 abbrev rowExpr : ℕ → ℕ → ℕ → Expr
