@@ -13,7 +13,8 @@ use Rattle.programs.specs.Sizes.{CHOICES}
 use Rattle.programs.specs.Program.{Program}
 use Rattle.machines.specs.Config.{Config, Choice}
 use Rattle.runs.specs.Outcome.{refused}
-use Rattle.runs.specs.Run.{Ended, run, place}
+use Rattle.runs.specs.Run.{Ended, run, ruled, place}
+use Rattle.rules.specs.declared.Rule.{Rule}
 use Rattle.rules.specs.Step.{Outcome, step}
 use Rattle.soundness.specs.Sound.{sound}
 use Rattle.acceptance.specs.Decide.{accepted}
@@ -45,6 +46,10 @@ stopped c a = record { config = c; answer = a; place = 0; steps = 0 }
 -- THE RUN: 20, then 3, then choice by choice
 unfoldable pub publicRun : Program → Config → List Choice → Ran
 publicRun p c l = cond (fit p c) (cond (leb (length l) CHOICES) (ran (run (step p) c l)) (stopped c OutOfRange)) (stopped c NotAccepted)
+
+-- the rules of the steps that it takes, in order
+unfoldable pub publicRules : Program → Config → List Choice → List Rule
+publicRules p c l = cond (fit p c) (cond (leb (length l) CHOICES) (ruled (step p) c l) []) []
 
 -- the answer, and what is written from the front of the buffer; the rest of the buffer stays as it was
 pub record Wrote : Type 0 where

@@ -15,7 +15,8 @@ use Rattle.programs.specs.declared.Expr.{Expr}
 use Rattle.programs.specs.Program.{Variable, Stmt, Action, State, Move}
 use Rattle.machines.specs.Config.{Choice}
 use Rattle.tabled.specs.Tabled.{byteOf, wordOf, tyCode, eventTable, variableKinds, variableTypes, exprRow, exprTable, stmtRow, stmtRows, initsOf, stmtTable}
-use Rattle.tabled.specs.Tabled.{actionKinds, actionBodies, stateKind, stateKinds, stateEntries, stateExits, moveRow, moveTable, choiceWord, choiceTable}
+use Rattle.choices.specs.Choices.{choiceWord}
+use Rattle.tabled.specs.Tabled.{actionKinds, actionBodies, stateKind, stateKinds, stateEntries, stateExits, moveRow, moveTable, choiceTable}
 use Rattle.putting.specs.Asked.{EventRoom, VariableTables, VariableRoom, ExprRoom, StmtRoom, ActionTables, ActionRoom, StateTables, StateRoom, MoveRoom, ChoiceRoom}
 use Rattle.putting.specs.Behind.{front-set, row-one, row-three, row-five}
 use Rattle.putting.specs.Counts.{expr-rows, stmt-rows, move-rows, event-count, variable-count, expr-count, stmt-count, action-count, state-count}

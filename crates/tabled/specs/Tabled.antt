@@ -22,6 +22,7 @@ use Rattle.programs.specs.Program.{Program, Variable, Stmt, Action, State, Move
 use Rattle.codes.specs.Codes.{intCode}
 use Rattle.tables.specs.declared.Program.{Program as Tables}
 use Rattle.machines.specs.Config.{Choice}
+use Rattle.choices.specs.Choices.{choiceWord}
 use Rattle.texts.specs.Reading.{Result, loaded, refused}
 use Rattle.texts.specs.Answered.{answered}
 use Rattle.tabled.specs.declared.Loaded.{Loaded}
@@ -194,11 +195,7 @@ tabled p = record {
   start = record { 0 = byteOf (p .start) };
 }
 
--- CHOICES: a machine and its bits in one number
-abbrev pub choiceWord : Choice → ℕ
-choiceWord c = c .machine * 256 + c .bits
-
--- the choices
+-- the choices, each as its number
 unfoldable pub choiceTable : List Choice → List ℕ
 choiceTable cs = pad 0 4096 (map choiceWord cs)
 

@@ -1,0 +1,2 @@
+-- a choice as one number
+pub mod Choices

@@ -1,0 +1,2 @@
+-- a rule as a number
+pub mod Labels
