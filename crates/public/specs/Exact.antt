@@ -18,7 +18,7 @@ use Rattle.programs.specs.Program.{Program}
 use Rattle.programs.specs.Statements.{isSeq}
 use Rattle.machines.specs.Config.{Pending, idle, raising, returning, Config, Choice}
 use Rattle.runs.specs.Outcome.{refused}
-use Rattle.runs.specs.Run.{Stepped, run}
+use Rattle.runs.specs.Run.{Stepped, run, ruled}
 use Rattle.rules.specs.Step.{step}
 use Rattle.rules.specs.Occasions.{SeqFirst, answer-20}
 use Rattle.soundness.specs.Sound.{Sound, sound-is}
@@ -28,7 +28,7 @@ use Rattle.kept.specs.Kept.{find-ok}
 use Rattle.regrouping.specs.Demand.{Regrouping}
 use Rattle.meetings.specs.Meetings.{meets, own, regroup}
 use Rattle.meetings.specs.Good.{regroup-good, no-list, a-list}
-use Rattle.public.specs.Public.{fit, publicStep, ran, stopped, publicRun, wroteNothing, listed, publicRegroup}
+use Rattle.public.specs.Public.{fit, publicStep, ran, stopped, publicRun, publicRules, wroteNothing, listed, publicRegroup}
 
 module _ (p : Program) (c : Config) where
   -- the program is sound and the configuration accepted
@@ -107,6 +107,16 @@ module _ (p : Program) (c : Config) where
     unfolding publicRun
     run-fit h k = rw (fit-true h, within k)
 
+    -- and the rules are those of its steps
+    pub rules-fit : Fit → length l ≤ CHOICES → publicRules p c l ≡ ruled (step p) c l
+    unfolding publicRules
+    rules-fit h k = rw (fit-true h, within k)
+
+    -- none at 3
+    pub rules-3 : Fit → CHOICES < length l → publicRules p c l ≡ []
+    unfolding publicRules
+    rules-3 h k = rw (fit-true h, above (length l) CHOICES k)
+
     -- REGROUP: the occasions of its answers, `room` being the length of the output buffer
     module _ (room : ℕ) where
       -- each answer with its occasion
@@ -141,6 +151,21 @@ module _ (p : Program) (c : Config) where
           fitted true e = sized (fit-is .holds e) (leb (length l) CHOICES) refl
           fitted false e = is-20 (unfit e)
 
+      -- 20: nothing is written
+      pub regroup-20 : (Fit → ⊥) → publicRegroup p c l room ≡ wroteNothing NotAccepted
+      unfolding publicRegroup
+      regroup-20 h = rw (fit-false h)
+
+      -- 3
+      pub regroup-3 : Fit → CHOICES < length l → publicRegroup p c l room ≡ wroteNothing OutOfRange
+      unfolding publicRegroup
+      regroup-3 h k = rw (fit-true h, above (length l) CHOICES k)
+
+      -- 21
+      pub regroup-21 : Fit → length l ≤ CHOICES → room < length l → publicRegroup p c l room ≡ wroteNothing BufferTooShort
+      unfolding publicRegroup
+      regroup-21 h k r = rw (fit-true h, within k, above (length l) room r)
+
       none-listed : (Stepped (step p) c (butLast l) → ⊥) → (o : Option (List Choice)) → regroup p c l ≡ o →
           listed o .answer ≡ TookNoStep
       none-listed n none e = refl
@@ -148,9 +173,9 @@ module _ (p : Program) (c : Config) where
 
       answers : {a : Answer} → Answers a → publicRegroup p c l room .answer ≡ a
       unfolding publicRegroup
-      answers (is-20 h) = rw (fit-false h)
-      answers (is-3 h k) = rw (fit-true h, above (length l) CHOICES k)
-      answers (is-21 h k r) = rw (fit-true h, within k, above (length l) room r)
+      answers (is-20 h) = ap (λ w. w .answer) (regroup-20 h)
+      answers (is-3 h k) = ap (λ w. w .answer) (regroup-3 h k)
+      answers (is-21 h k r) = ap (λ w. w .answer) (regroup-21 h k r)
       answers (is-22 h k r n) = rw (fit-true h, within k, le-leb (length l) room r) (none-listed n (regroup p c l) refl)
       answers (is-0 h k r n) = rw (fit-true h, within k, le-leb (length l) room r, regroup-good p c l (h .0) (h .1) n .1)
 

@@ -6,3 +6,7 @@ pub mod Demand
 pub mod Tails
 pub mod Swaps
 pub mod Theorem
+-- a run and its labels
+pub mod Labelled
+-- the same choices
+pub mod Same
