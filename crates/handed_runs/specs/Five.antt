@@ -65,6 +65,6 @@ regroup-runs q c l room h k r n = go (regroup-five q c l room h k r n)
         let few : length m ≤ CHOICES = omega (arith, many, k) in
         let fits : length (choicesOf l) ≤ CHOICES = omega (arith, length-map l choiceOf, k) in
         let same : publicRun p d m ≡ publicRun p d (choicesOf l)
-              = run-fit p d m (h .0, h .1 .0) few ∙ ap ran (five .same-end) ∙ sym (run-fit p d (choicesOf l) (h .0, h .1 .0) fits) in
+        = run-fit p d m (h .0, h .1 .0) few ∙ ap ran (five .same-end) ∙ sym (run-fit p d (choicesOf l) (h .0, h .1 .0) fits) in
         ap (λ (x : List Choice). cond (fit q c) (ranAs (publicRun p d x)) (stoppedAt c NotAccepted)) (ap (λ w. choicesOf (numbersOf w)) e ∙ again)
         ∙ ap (λ x. cond (fit q c) (ranAs x) (stoppedAt c NotAccepted)) same

@@ -70,11 +70,13 @@ loop-again c =
     let done = known .before .before in
     let bits = done .before .before .before .before .before .before .before .before .before .before .before .before .before in
     let turn = bits .before .before .before in
-    let within = turn .loop-test .taken in
-    (omega (arith, within), λ a.
-        let going = turn .before .loop .inv .1 a in
-        let left = rw (known .rule .given .1) at (done .step-on .ensures (turn-asked a going within (bits .bits-of .ensures))) in
-        going-took a going within (bits .before .machine-of .ensures) (bits .bits-of .ensures) _ _ left (c .rule-number .ensures))
+    let within = turn .loop-test .taken in (
+      omega (arith, within),
+      λ a.
+          let going = turn .before .loop .inv .1 a in
+          let left = rw (known .rule .given .1) at (done .step-on .ensures (turn-asked a going within (bits .bits-of .ensures))) in
+          going-took a going within (bits .before .machine-of .ensures) (bits .bits-of .ensures) _ _ left (c .rule-number .ensures),
+    )
 
 enum-known-answer : tie.Need-enum-known-answer Inv-loop μ-loop
 enum-known-answer c = search needs
@@ -92,9 +94,9 @@ returns c =
     let turn = bits .before .before .before in
     let within = turn .loop-test .taken in
     λ a.
-        let going = turn .before .loop .inv .1 a in
-        let left = rw (known .answer .given .1) at (done .step-on .ensures (turn-asked a going within (bits .bits-of .ensures))) in
-        going-refused a going within (bits .before .machine-of .ensures) (bits .bits-of .ensures) _ _ left (c .ending .ensures)
+    let going = turn .before .loop .inv .1 a in
+    let left = rw (known .answer .given .1) at (done .step-on .ensures (turn-asked a going within (bits .bits-of .ensures))) in
+    going-refused a going within (bits .before .machine-of .ensures) (bits .bits-of .ensures) _ _ left (c .ending .ensures)
 
 ending-requires-2 : tie.Need-ending-requires-2 Inv-loop μ-loop
 ending-requires-2 c κs = omega (arith, c .before .loop .inv .0, c .before .before .before .pre .few)
