@@ -65,7 +65,7 @@ cleared-is : (out blank : List ℕ) → Cleared 19 out → length blank ≡ 19 �
 cleared-is out blank h e z = ext-getD 0 out blank (h .size ∙ sym e) (λ j b. h .zeros j (omega (arith, h .size)) ∙ sym (z j))
 
 -- where nothing is set, all are zero
-written-blank : (xs : List Variable) (out : List ℕ) → length out ≡ 19 → ((j : ℕ) → getD out j 0 ≡ 0) → Written (map (λ v. undefined) xs) out
+pub written-blank : (xs : List Variable) (out : List ℕ) → length out ≡ 19 → ((j : ℕ) → getD out j 0 ≡ 0) → Written (map (λ v. undefined) xs) out
 written-blank xs out e z = record { size = e; values = λ j h. z j ∙ ap codeOf (sym (List·getD-map (λ (v : Variable). undefined) xs j (record { of = 0; type = noVariable .type }))); rest = λ j h. z j }
 
 -- a store of one value

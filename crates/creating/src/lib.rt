@@ -35,7 +35,7 @@ fn index(x: u8) -> usize
 }
 
 // Machine i, of kind m, in room `to`, which is free: in state n, with these values, at the entry statement.
-fn lay_new(
+pub fn lay_new(
     stmts: &[u16; 5 * (Program::STATEMENTS + 1)],
     ids: &mut [u32; Program::ROOMS],
     kinds: &mut [u8; Program::ROOMS],

@@ -1,6 +1,6 @@
 -- WHAT THE LOADER HANDS OUT: the program that the text says, which is sound, and whose start configuration is accepted. So it is never refused with 20.
 use Prim.Native.Nat.{ℕ, suc, _≤_, _<_}
-use mathlib.Core.Path.{_≡_, refl, ap, _∙_}
+use mathlib.Core.Path.{_≡_, refl, ap, _∙_, subst}
 use mathlib.Core.Bool.{Bool, true, false, cond}
 use mathlib.Core.List.{List, [], _∷_}
 use native.Mathlib.Omega.{arith}
@@ -16,10 +16,7 @@ use Rattle.rules.specs.Step.{startConfig}
 use Rattle.soundness.specs.Asked.{refers}
 use Rattle.soundness.specs.Sound.{Sound}
 use Rattle.soundness.specs.Lines.{variable-meets, fault-free}
-use Rattle.kept.specs.Theorem.{start-accepted}
-use Rattle.configs.specs.Decode.{configOf}
 use Rattle.configs.specs.Encode.{written}
-use Rattle.configs.specs.RoundTrip.{reads-written}
 use Rattle.tables.specs.Decode.{noVariable, programOf}
 use Rattle.texts.specs.Bytes.{LF, split}
 use Rattle.texts.specs.Reading.{nothing, loaded, refused, reading}
@@ -33,6 +30,7 @@ use Rattle.standing.specs.Uncut.{stood-same}
 use Rattle.standing.specs.Absent.{few-variables}
 use Rattle.reading.specs.Bounded.{text-bounded}
 use Rattle.handed.specs.Handed.{Fit}
+use Rattle.handed.specs.Start.{start-fits}
 
 -- a text that is loaded is not too long
 short : (t : List ℕ) (p : Program) (c : List Choice) → answered t ≡ loaded p c → length t ≤ TEXT
@@ -72,7 +70,4 @@ module _ (t : List ℕ) (p : Program) (c : List Choice) (e : answered t ≡ load
 
   -- THEY ARE SOUND, AND THE START CONFIGURATION IS ACCEPTED: nothing of 20 holds
   pub loaded-fits : Fit (loadOf t .program) (written (startConfig p))
-  loaded-fits = rw loaded-reads (sound, (rw back (start-accepted p sound), ap written back))
-    where
-      back : configOf p (written (startConfig p)) ≡ startConfig p
-      back = reads-written p (startConfig p) sound (start-accepted p sound)
+  loaded-fits = subst (λ (x : Program). Fit (loadOf t .program) (written (startConfig x))) loaded-reads (start-fits (loadOf t .program) (rw loaded-reads sound))

@@ -2,6 +2,8 @@
 pub mod Forms
 -- the two public steps
 pub mod Step
+-- the two public runs
+pub mod Runs
 -- the tests of what is handed in
 pub mod Passes
 -- tables that are worked out of a program, and the marks of what was named

@@ -18,6 +18,7 @@ use Rattle.queues.specs.Queues.{Put, Removed}
 use Rattle.engine.specs.Holding.{Elsewhere, other-place, RowBecomes, StackHeld}
 use Rattle.remaining.specs.Remaining.{Standing, stands}
 use Rattle.stacks.specs.Stacks.{Framed, StackBecomes}
+use Rattle.creating.specs.Newborn.{LayAsked, NewLaid}
 
 -- A ROW in its 33 places
 -- has one number of parts,
@@ -91,3 +92,21 @@ put-one r s p q w v h k = (h .answer ∙ sym (k .answer), (h .places ∙ sym (k 
 -- `queues::remove_on`
 pub removed-one : {pairs waiting : List ℕ} {i k : ℕ} (p q w v : List ℕ) → Removed pairs waiting i k p w → Removed pairs waiting i k q v → (p ≡ q) × (w ≡ v)
 removed-one p q w v h k = (h .places ∙ sym (k .places), h .counts ∙ sym (k .counts))
+
+-- `creating::lay_new`; what it is asked has a program that the contract speaks of
+pub laid-one : {to i m n entry : ℕ} {own stmts ids kinds depths tops values counts parts : List ℕ} → LayAsked to entry stmts values counts parts → (a a' b b' c c' d d' e e' f f' g g' : List ℕ)
+    → NewLaid to i m n own entry stmts ids kinds depths tops values counts parts a b c d e f g → NewLaid to i m n own entry stmts ids kinds depths tops values counts parts a' b' c' d' e' f' g'
+    → (a ≡ a') × ((b ≡ b') × ((c ≡ c') × ((d ≡ d') × ((e ≡ e') × ((f ≡ f') × (g ≡ g'))))))
+laid-one q a a' b b' c c' d d' e e' f f' g g' h k = (
+  h .ids-are ∙ sym (k .ids-are),
+  (
+    h .kinds-are ∙ sym (k .kinds-are),
+    (
+      h .depths-are ∙ sym (k .depths-are),
+      (
+        h .tops-are ∙ sym (k .tops-are),
+        (h .values-are ∙ sym (k .values-are), row-becomes-one (q .placing .program) (q .placing .said) (q .placing .standing) f f' g g' (h .row) (k .row)),
+      ),
+    ),
+  ),
+)
