@@ -1,8 +1,10 @@
--- A rule as a number, in the order in which document 01 lists the rules, from 1 on; and which numbers are a meeting's.
+-- A rule as a number, in the order in which document 01 lists the rules, from 1 on; the rule of a number; and which numbers are a meeting's.
 use Prim.Native.Nat.{ℕ}
 use mathlib.Core.Path.{_≡_, refl}
 use mathlib.Core.Bool.{Bool, _||_}
+use mathlib.Core.List.{List, [], _∷_}
 use lib.Dec.{eqb}
+use lib.ListN.{getD}
 use Rattle.rules.specs.declared.Rule.{Rule}
 use Rattle.rules.specs.declared.Rule.the-variants.{ASSIGN, NEW, DELETE, ASSERT, SEQ, IF, WHILE, SEND, RAISE, LEAVE, RETURN, DEQUEUE, STEP, ACTION, CALL, POP1, POP2}
 use Rattle.meetings.specs.Meetings.{meets}
@@ -26,6 +28,34 @@ ruleNumber ACTION = 14
 ruleNumber CALL = 15
 ruleNumber POP1 = 16
 ruleNumber POP2 = 17
+
+-- the rules 1 to 16 behind the last one, which stands for every other number
+abbrev pub byNumber : List Rule
+byNumber = POP2 ∷ ASSIGN ∷ NEW ∷ DELETE ∷ ASSERT ∷ SEQ ∷ IF ∷ WHILE ∷ SEND ∷ RAISE ∷ LEAVE ∷ RETURN ∷ DEQUEUE ∷ STEP ∷ ACTION ∷ CALL ∷ POP1 ∷ []
+
+-- the rule of a number: the last for a number that is no rule's
+abbrev pub ruleOf : ℕ → Rule
+ruleOf n = getD byNumber n POP2
+
+-- the rule of a rule's number is that rule
+pub rule-again : (R : Rule) → ruleOf (ruleNumber R) ≡ R
+rule-again ASSIGN = refl
+rule-again NEW = refl
+rule-again DELETE = refl
+rule-again ASSERT = refl
+rule-again SEQ = refl
+rule-again IF = refl
+rule-again WHILE = refl
+rule-again SEND = refl
+rule-again RAISE = refl
+rule-again LEAVE = refl
+rule-again RETURN = refl
+rule-again DEQUEUE = refl
+rule-again STEP = refl
+rule-again ACTION = refl
+rule-again CALL = refl
+rule-again POP1 = refl
+rule-again POP2 = refl
 
 -- "A meeting is NEW, SEND, DELETE or DEQUEUE."
 abbrev pub meeting : ℕ → Bool

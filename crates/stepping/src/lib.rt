@@ -1,5 +1,5 @@
-// THE STEP BY VALUE: the program and the configuration that are handed in are tested (answer 20); then the configuration is laid into the engine's arrays, one
-// step is taken, and it is lifted out of them.
+// THE STEP BY VALUE: the program and the configuration that are handed in are tested (answer 20); then the configuration is laid into the engine's arrays, the
+// one choice is run, and it is lifted out of them.
 use answers::Answer;
 use configs::Config;
 use engine::Outcome;
@@ -14,7 +14,8 @@ ghost use Rattle.admitting.specs.Admitting.{Laid};
 ghost use Rattle.handed.specs.Handed.{stepOf};
 ghost use Rattle.stepping.specs.Stepping.{Left};
 
-// The step of the configuration that lies in the engine's arrays, by a sound program: 20 where it is not one.
+// The step of the configuration that lies in the engine's arrays, by a sound program: 20 where it is not one. It is the run of the one choice, so that the engine's
+// step has one caller, the loop of a run, and is compiled into it. A number beyond 65,535 is no live one, and the number of a choice has no room for it.
 fn step_laid(
     program: Program,
     ids: &mut [u32; Program::ROOMS],
@@ -52,36 +53,13 @@ fn step_laid(
     ) {
         return Outcome::Refused(Answer::NotAccepted);
     }
-    let exprs = program.exprs;
-    let stmts = program.stmts;
-    let inits = program.inits;
-    let types = program.event_types;
-    let owners = program.variable_of;
-    let vartypes = program.variable_type;
-    let doers = program.action_of;
-    let bodies = program.action_body;
-    let homes = program.state_of;
-    let entries = program.state_entry;
-    let exits = program.state_exit;
-    let defers = program.defers;
-    let moves = program.moves;
-    let says = index::say(&moves, program.steps, program.calls, program.acts);
-    let places = index::place_all(&owners);
-    dispatch::step_on(
-        &exprs,
-        &stmts,
-        &inits,
-        &types,
-        &owners,
-        &vartypes,
-        &doers,
-        &bodies,
-        &homes,
-        &entries,
-        &exits,
-        &defers,
-        &says,
-        &places,
+    if Program::LIVE_NUMBERS <= machine.0 as usize {
+        return Outcome::Refused(Answer::UnableToStep);
+    }
+    let list: [u32; 1] = [machine.0 * 256 + bits as u32];
+    let mut rules: [u8; Program::CHOICES] = [0; Program::CHOICES];
+    let end = accepted_runs::run_accepted(
+        program,
         ids,
         kinds,
         depths,
@@ -94,9 +72,16 @@ fn step_laid(
         waiting,
         pairs,
         next,
-        machine.0,
-        bits as u64,
-    )
+        &list,
+        1,
+        &mut rules,
+    );
+    if end.steps == 1 {
+        let n = rules[0];
+        return Outcome::Took(labels::rule_of(n));
+    }
+    let answer = end.answer;
+    Outcome::Refused(answer)
 }
 
 // The step of a sound program.
