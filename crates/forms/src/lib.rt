@@ -67,9 +67,10 @@ fn first_form(t: &[u8], s: &[u8], a: usize, e: usize, first: Taken) -> Form
     requires { ⌜ Tried (now t) (now s) e first ⌝ }
     ensures { λ r. ⌜ r ≡ rowOf forms (now (s .entry)) a e ⌝ }
 {
+    let begins = BEGINS;
     let mut r = 0;
     while r < 44 {
-        let f = scans::scan(t, BEGINS[r], s, a, e, first);
+        let f = scans::scan(t, begins[r], s, a, e, first);
         if f.fits {
             let at = f.at;
             return Form { row: r, at };

@@ -8,10 +8,10 @@ use Rattle.forms.proofs.first_form.Statement.{statement}
 use Rattle.forms.proofs.first_form.Tie as tie
 
 abbrev Inv-loop : tie.InvT-loop
-Inv-loop t s a e first r₀ r = Turn forms s a e r
+Inv-loop t s a e first begins r₀ r = Turn forms s a e r
 
 abbrev μ-loop : tie.MeasureT-loop
-μ-loop t s a e first r₀ r = 44 - r
+μ-loop t s a e first begins r₀ r = 44 - r
 
 loop-holds : tie.Need-loop-holds Inv-loop μ-loop
 loop-holds c = let a = c .before .before .args in turn-none forms (a .s .now) (a .a) (a .e)
