@@ -1,0 +1,201 @@
+-- What regroup answers and writes of what is handed in, occasion by occasion: 20, 3, 21, 22 in that order; on 0 the regrouped list.
+use Prim.Native.Nat.{ℕ, suc, _-_, _≤_, _<_}
+use mathlib.Core.Path.{_≡_, refl, ap, sym, _∙_, subst}
+use mathlib.Core.Bool.{Bool, true, false, not}
+use mathlib.Core.Option.{Option, none, some, Option·map}
+use mathlib.Core.List.{List, [], _∷_, _++_, map}
+use native.Mathlib.Omega.{arith}
+use lib.ListN.{length, take, drop, length-map}
+use Rattle.lists.specs.Facts.{not-true}
+use Rattle.lists.specs.Tells.{Tells, refuted, denied, agree}
+use Rattle.lists.specs.Ends.{initOf, lastOf}
+use Rattle.answers.specs.declared.Answer.{Answer}
+use Rattle.answers.specs.declared.Answer.the-variants.{Done, OutOfRange, NotAccepted, BufferTooShort, TookNoStep}
+use Rattle.programs.specs.Sizes.{CHOICES}
+use Rattle.programs.specs.Program.{Program}
+use Rattle.machines.specs.Config.{Config, Choice}
+use Rattle.choices.specs.Choices.{choiceWord, choiceOf, choicesOf}
+use Rattle.labels.specs.Labels.{ruleNumber}
+use Rattle.runs.specs.Run.{run, ruled}
+use Rattle.soundness.specs.Sound.{sound, sound-is}
+use Rattle.rules.specs.declared.Rule.{Rule}
+use Rattle.rules.specs.Step.{step}
+use Rattle.regrouping.specs.Regrouped.{regrouped}
+use Rattle.regrouping.specs.Demand.{choices, ownE, meetE, label} 
+use Rattle.regrouping.specs.Demand.{regroup as regroupOver}
+use Rattle.regrouping.specs.Labelled.{paired, paired-choices, paired-rules, ruled-many, label-all, label-none}
+use Rattle.meetings.specs.Meetings.{meets, own, regroup}
+use Rattle.public.specs.Public.{Wrote, wroteNothing, listed, publicRegroup}
+use Rattle.public.specs.Exact.{regroup-3, regroup-21, regroup-fit}
+use Rattle.tables.specs.declared.Program.{Program as Tables}
+use Rattle.tables.specs.Decode.{programOf}
+use Rattle.configs.specs.declared.Config.{Config as Held}
+use Rattle.configs.specs.Decode.{configOf}
+use Rattle.configs.specs.Flat.{Flat, held, flatConfig}
+use Rattle.accepting.specs.Asked.{IsOne}
+use Rattle.admitting.specs.Admitting.{Laid}
+use Rattle.stepping.specs.Stepping.{passed}
+use Rattle.handed.specs.Handed.{Fit, fit, fit-is}
+use Rattle.handed_runs.specs.HandedRuns.{fronted, regroupOf, numbersOf}
+use Rattle.handed_runs.specs.declared.Ending.{Ending}
+use Rattle.looping.specs.Looping.{RunLeft}
+use Rattle.placing.specs.Placed.{placedList}
+use Rattle.placing.specs.Regroups.{placed-regroup}
+use Rattle.grouping.specs.Ends.{take-init, length-init, map-init}
+
+-- the list that is written where the rules of the first choices of y ∷ l are rs
+abbrev pub groupedList : ℕ → List ℕ → List Rule → List Choice
+groupedList y l rs = choices (regrouped (ownE Rule own) (meetE Choice meets) (own (lastOf (choiceOf y) (choicesOf l))) (paired (initOf (choiceOf y) (choicesOf l)) rs)) ++ lastOf (choiceOf y) (choicesOf l) ∷ []
+
+module _ (p : Program) (c : Config) (y : ℕ) (l : List ℕ) where
+  -- the choices before the last
+  first-are : choicesOf (take (length l) (y ∷ l)) ≡ initOf (choiceOf y) (choicesOf l)
+  first-are = ap (map choiceOf) (take-init y l) ∙ map-init choiceOf y l
+
+  first-many : length (initOf (choiceOf y) (choicesOf l)) ≡ length l
+  first-many = length-init (choiceOf y) (choicesOf l) ∙ length-map l choiceOf
+
+  -- a choice before the last took no step
+  pub regroup-none : (run (step p) c (choicesOf (take (length l) (y ∷ l))) .steps ≡ length l → ⊥) → regroup p c (choicesOf (y ∷ l)) ≡ none
+  unfolding regroupOver
+  regroup-none n = rw (label-none (step p) c (initOf (choiceOf y) (choicesOf l)) (λ e. n (rw first-are (e ∙ first-many))))
+
+  -- every choice before the last took one
+  pub regroup-some : run (step p) c (choicesOf (take (length l) (y ∷ l))) .steps ≡ length l
+      → regroup p c (choicesOf (y ∷ l)) ≡ some (groupedList y l (ruled (step p) c (choicesOf (take (length l) (y ∷ l)))))
+  unfolding regroupOver
+  regroup-some e = rw (label-all (step p) c (initOf (choiceOf y) (choicesOf l)) ((rw first-are at e) ∙ sym first-many), first-are)
+
+  -- what is placed by the numbers of the rules
+  pub grouped-numbers : run (step p) c (choicesOf (take (length l) (y ∷ l))) .steps ≡ length l → (row : List ℕ)
+      → placedList (y ∷ l) (fronted (map ruleNumber (ruled (step p) c (choicesOf (take (length l) (y ∷ l))))) row) ≡ map choiceWord (groupedList y l (ruled (step p) c (choicesOf (take (length l) (y ∷ l)))))
+  grouped-numbers e row =
+      let rs = ruled (step p) c (choicesOf (take (length l) (y ∷ l))) in
+      let many : length rs ≡ length (initOf (choiceOf y) (choicesOf l)) = ruled-many (step p) c (choicesOf (take (length l) (y ∷ l))) ∙ e ∙ sym first-many in
+      let rest = drop (length (map ruleNumber rs)) row in
+      ap (λ (t : List Rule). placedList (y ∷ l) (map ruleNumber t ++ rest)) (sym (paired-rules (initOf (choiceOf y) (choicesOf l)) rs many))
+      ∙ placed-regroup y l (paired (initOf (choiceOf y) (choicesOf l)) rs) rest (paired-choices (initOf (choiceOf y) (choicesOf l)) rs many)
+
+module _ (q : Tables) (c : Held) (l : List ℕ) (room : ℕ) where
+  -- 20
+  pub grouped-20 : fit q c ≡ false → regroupOf q c l room ≡ wroteNothing NotAccepted
+  unfolding regroupOf
+  grouped-20 e = rw e
+
+  module _ (h : Fit q c) where
+    -- it is the public one
+    is-public : regroupOf q c l room ≡ publicRegroup (programOf q) (configOf (programOf q) c) (choicesOf l) room
+    unfolding regroupOf
+    is-public = rw (fit-is q c .test h)
+
+    many : length (choicesOf l) ≡ length l
+    many = length-map l choiceOf
+
+    -- 3
+    pub grouped-3 : CHOICES < length l → regroupOf q c l room ≡ wroteNothing OutOfRange
+    grouped-3 k = is-public ∙ regroup-3 (programOf q) (configOf (programOf q) c) (choicesOf l) room (h .0, h .1 .0) (rw many k)
+
+    -- 21
+    pub grouped-21 : length l ≤ CHOICES → room < length l → regroupOf q c l room ≡ wroteNothing BufferTooShort
+    grouped-21 k r = is-public ∙ regroup-21 (programOf q) (configOf (programOf q) c) (choicesOf l) room (h .0, h .1 .0) (rw many k) (rw many r)
+
+    -- otherwise what the definitions' regrouping gives
+    pub grouped-else : length l ≤ CHOICES → length l ≤ room → regroupOf q c l room ≡ listed (regroup (programOf q) (configOf (programOf q) c) (choicesOf l))
+    grouped-else k r = is-public ∙ regroup-fit (programOf q) (configOf (programOf q) c) (choicesOf l) room (h .0, h .1 .0) (rw many k) (rw many r)
+
+    -- where there is no choice nothing is written
+    pub grouped-none : length l ≡ 0 → regroupOf q c l room ≡ record { answer = Done; list = [] }
+    unfolding regroupOver
+    grouped-none e = go l e grouped-else
+      where
+        go : (l : List ℕ) → length l ≡ 0 → (length l ≤ CHOICES → length l ≤ room → regroupOf q c l room ≡ listed (regroup (programOf q) (configOf (programOf q) c) (choicesOf l)))
+            → regroupOf q c l room ≡ record { answer = Done; list = [] }
+        go [] e f = f (omega arith) (omega arith)
+        go (y ∷ l) e f = absurd (omega (arith, e))
+
+    -- n choices stand before the last
+    module _ (n : ℕ) (some-are : suc n ≡ length l) (few : length l ≤ CHOICES) (fits : length l ≤ room) where
+      -- 22
+      pub grouped-22 : (run (step (programOf q)) (configOf (programOf q) c) (choicesOf (take n l)) .steps ≡ n → ⊥) → regroupOf q c l room ≡ wroteNothing TookNoStep
+      grouped-22 short = grouped-else few fits ∙ ap listed (go l some-are short)
+        where
+          go : (l : List ℕ) → suc n ≡ length l → (run (step (programOf q)) (configOf (programOf q) c) (choicesOf (take n l)) .steps ≡ n → ⊥)
+              → regroup (programOf q) (configOf (programOf q) c) (choicesOf l) ≡ none
+          go [] e h = absurd (omega (arith, e))
+          go (y ∷ l) e h =
+              let is : n ≡ length l = omega (arith, e) in
+              regroup-none (programOf q) (configOf (programOf q) c) y l (subst (λ (k : ℕ). run (step (programOf q)) (configOf (programOf q) c) (choicesOf (take k (y ∷ l))) .steps ≡ k → ⊥) is h)
+
+      -- 0: what is placed by the numbers of the rules is what is written
+      pub grouped-0 : run (step (programOf q)) (configOf (programOf q) c) (choicesOf (take n l)) .steps ≡ n → (row : List ℕ)
+          → (regroupOf q c l room .answer ≡ Done)
+          × (placedList l (fronted (map ruleNumber (ruled (step (programOf q)) (configOf (programOf q) c) (choicesOf (take n l)))) row) ≡ numbersOf (regroupOf q c l room))
+      grouped-0 all row = rw (grouped-else few fits) (go l some-are all)
+        where
+          go : (l : List ℕ) → suc n ≡ length l → run (step (programOf q)) (configOf (programOf q) c) (choicesOf (take n l)) .steps ≡ n
+              → (listed (regroup (programOf q) (configOf (programOf q) c) (choicesOf l)) .answer ≡ Done)
+              × (placedList l (fronted (map ruleNumber (ruled (step (programOf q)) (configOf (programOf q) c) (choicesOf (take n l)))) row)
+              ≡ numbersOf (listed (regroup (programOf q) (configOf (programOf q) c) (choicesOf l))))
+          go [] e h = absurd (omega (arith, e))
+          go (y ∷ l) e h =
+              let is : length l ≡ n = omega (arith, e) in
+              let stepped : run (step (programOf q)) (configOf (programOf q) c) (choicesOf (take (length l) (y ∷ l))) .steps ≡ length l = rw is h in
+              rw (← is, regroup-some (programOf q) (configOf (programOf q) c) y l stepped) (refl, grouped-numbers (programOf q) (configOf (programOf q) c) y l stepped row)
+
+-- WHAT REGROUP GIVES: its answer, and what the output buffer holds then
+pub record GroupedAs (q : Tables) (c : Held) (l out : List ℕ) (r : Answer) (out′ : List ℕ) : Type 0 where
+  pub answer : r ≡ regroupOf q c l (length out) .answer
+  pub wrote : out′ ≡ fronted (numbersOf (regroupOf q c l (length out))) out
+
+-- a refusal: nothing is written
+nothing-written : {q : Tables} {c : Held} {l out : List ℕ} {a : Answer} → regroupOf q c l (length out) ≡ record { answer = a; list = [] } → GroupedAs q c l out a out
+nothing-written {out = out} e = record { answer = ap (λ w. w .answer) (sym e); wrote = ap (λ w. fronted (numbersOf w) out) (sym e) }
+
+-- 20: the program is not sound,
+pub group-unsound : (q : Tables) (c : Held) (l out : List ℕ) → sound (programOf q) ≡ false → GroupedAs q c l out NotAccepted out
+group-unsound q c l out e = nothing-written (grouped-20 q c l (length out) (agree _ _ (fit-is q c) (refuted (λ h. denied (sound-is (programOf q)) e (h .0)))))
+
+module _ (q : Tables) (f : Flat) (l out : List ℕ) (z : Laid q f) {b : Bool} (t : Tells b (IsOne (programOf q) f)) where
+  -- or the arrays hold no configuration
+  pub group-unaccepted : not b ≡ true → GroupedAs q (held f) l out NotAccepted out
+  group-unaccepted n = nothing-written (grouped-20 q (held f) l (length out) (agree _ _ (fit-is q (held f)) (refuted (λ h. denied t (not-true b n) (record { accepted = h .1 .0; zeroed = h .1 .1 })))))
+
+  -- THEY HOLD ONE
+  module _ (n : not b ≡ false) where
+    abbrev fit-held : Fit q (held f)
+    fit-held = let one = passed b t n in (z .sound, (one .accepted, one .zeroed))
+
+    -- 3
+    pub group-long : CHOICES < length l → GroupedAs q (held f) l out OutOfRange out
+    group-long k = nothing-written (grouped-3 q (held f) l (length out) fit-held k)
+
+    -- 21
+    pub group-short : length l ≤ CHOICES → length out < length l → GroupedAs q (held f) l out BufferTooShort out
+    group-short k r = nothing-written (grouped-21 q (held f) l (length out) fit-held k r)
+
+    -- no choice
+    pub group-none : length l ≡ 0 → GroupedAs q (held f) l out Done out
+    group-none e = nothing-written (grouped-none q (held f) l (length out) fit-held e)
+
+    -- the choices before the last were run
+    module _ (any : length l ≡ 0 → ⊥) (few : length l ≤ CHOICES) (fits : length l ≤ length out) {row row′ : List ℕ} {e : Ending} {g : Flat}
+        (left : RunLeft (programOf q) (flatConfig (programOf q) f) l (length l - 1) row e g row′) where
+      before-last : suc (length l - 1) ≡ length l
+      before-last = omega (arith, any)
+
+      steps-are : e .steps ≡ run (step (programOf q)) (configOf (programOf q) (held f)) (choicesOf (take (length l - 1) l)) .steps
+      steps-are = ap (λ (x : Ending). x .steps) (left .ends)
+
+      -- 22
+      pub group-22 : (e .steps ≡ length l - 1 → ⊥) → GroupedAs q (held f) l out TookNoStep out
+      group-22 short = nothing-written (grouped-22 q (held f) l (length out) fit-held (length l - 1) before-last few fits (λ h. short (steps-are ∙ h)))
+
+      -- 0
+      pub group-0 : {out′ : List ℕ} → e .steps ≡ length l - 1 → out′ ≡ fronted (placedList l row′) out → GroupedAs q (held f) l out Done out′
+      group-0 h w =
+          let done = grouped-0 q (held f) l (length out) fit-held (length l - 1) before-last few fits (sym steps-are ∙ h) row in
+          record { answer = sym (done .0); wrote = w ∙ ap (λ (xs : List ℕ). fronted xs out) (ap (placedList l) (left .rules) ∙ done .1) }
+
+-- the same of the configuration that was laid into the arrays
+pub group-from : {q : Tables} {c d : Held} {l out out′ : List ℕ} {r : Answer} → GroupedAs q c l out r out′ → c ≡ d → GroupedAs q d l out r out′
+group-from {q} {c} {d} {l} {out} {out′} {r} h e = subst (λ (x : Held). GroupedAs q x l out r out′) e h
