@@ -5,10 +5,11 @@ use mathlib.Core.Bool.{Bool, true, false, not}
 use mathlib.Core.Option.{Option, none, some, Option·map}
 use mathlib.Core.List.{List, [], _∷_, _++_, map}
 use native.Mathlib.Omega.{arith}
-use lib.ListN.{length, take, drop, length-map}
+use lib.ListN.{length, take, length-map}
+use lib.Seq.{length-take-le}
 use Rattle.lists.specs.Facts.{not-true}
 use Rattle.lists.specs.Tells.{Tells, refuted, denied, agree}
-use Rattle.lists.specs.Ends.{initOf, lastOf}
+use Rattle.lists.specs.Ends.{butLast, take-init, map-init}
 use Rattle.answers.specs.declared.Answer.{Answer}
 use Rattle.answers.specs.declared.Answer.the-variants.{Done, OutOfRange, NotAccepted, BufferTooShort, TookNoStep}
 use Rattle.programs.specs.Sizes.{CHOICES}
@@ -20,10 +21,7 @@ use Rattle.runs.specs.Run.{run, ruled}
 use Rattle.soundness.specs.Sound.{sound, sound-is}
 use Rattle.rules.specs.declared.Rule.{Rule}
 use Rattle.rules.specs.Step.{step}
-use Rattle.regrouping.specs.Regrouped.{regrouped}
-use Rattle.regrouping.specs.Demand.{choices, ownE, meetE, label} 
 use Rattle.regrouping.specs.Demand.{regroup as regroupOver}
-use Rattle.regrouping.specs.Labelled.{paired, paired-choices, paired-rules, ruled-many, label-all, label-none}
 use Rattle.meetings.specs.Meetings.{meets, own, regroup}
 use Rattle.public.specs.Public.{Wrote, wroteNothing, listed, publicRegroup}
 use Rattle.public.specs.Exact.{regroup-3, regroup-21, regroup-fit}
@@ -40,41 +38,19 @@ use Rattle.handed_runs.specs.HandedRuns.{fronted, regroupOf, numbersOf}
 use Rattle.handed_runs.specs.declared.Ending.{Ending}
 use Rattle.looping.specs.Looping.{RunLeft}
 use Rattle.placing.specs.Placed.{placedList}
-use Rattle.placing.specs.Regroups.{placed-regroup}
-use Rattle.grouping.specs.Ends.{take-init, length-init, map-init}
+use Rattle.placing.specs.ByRun.{regroup-placed, regroup-none}
 
--- the list that is written where the rules of the first choices of y ∷ l are rs
-abbrev pub groupedList : ℕ → List ℕ → List Rule → List Choice
-groupedList y l rs = choices (regrouped (ownE Rule own) (meetE Choice meets) (own (lastOf (choiceOf y) (choicesOf l))) (paired (initOf (choiceOf y) (choicesOf l)) rs)) ++ lastOf (choiceOf y) (choicesOf l) ∷ []
+-- THE CHOICES BEFORE THE LAST, where there are n of them
+module _ (l : List ℕ) (n : ℕ) (some-are : suc n ≡ length l) where
+  before-are : choicesOf (take n l) ≡ butLast (choicesOf l)
+  before-are = go l some-are
+    where
+      go : (l : List ℕ) → suc n ≡ length l → choicesOf (take n l) ≡ butLast (choicesOf l)
+      go [] e = absurd (omega (arith, e))
+      go (y ∷ l) e = let is : n ≡ length l = omega (arith, e) in rw is (ap (map choiceOf) (take-init y l) ∙ map-init choiceOf y l)
 
-module _ (p : Program) (c : Config) (y : ℕ) (l : List ℕ) where
-  -- the choices before the last
-  first-are : choicesOf (take (length l) (y ∷ l)) ≡ initOf (choiceOf y) (choicesOf l)
-  first-are = ap (map choiceOf) (take-init y l) ∙ map-init choiceOf y l
-
-  first-many : length (initOf (choiceOf y) (choicesOf l)) ≡ length l
-  first-many = length-init (choiceOf y) (choicesOf l) ∙ length-map l choiceOf
-
-  -- a choice before the last took no step
-  pub regroup-none : (run (step p) c (choicesOf (take (length l) (y ∷ l))) .steps ≡ length l → ⊥) → regroup p c (choicesOf (y ∷ l)) ≡ none
-  unfolding regroupOver
-  regroup-none n = rw (label-none (step p) c (initOf (choiceOf y) (choicesOf l)) (λ e. n (rw first-are (e ∙ first-many))))
-
-  -- every choice before the last took one
-  pub regroup-some : run (step p) c (choicesOf (take (length l) (y ∷ l))) .steps ≡ length l
-      → regroup p c (choicesOf (y ∷ l)) ≡ some (groupedList y l (ruled (step p) c (choicesOf (take (length l) (y ∷ l)))))
-  unfolding regroupOver
-  regroup-some e = rw (label-all (step p) c (initOf (choiceOf y) (choicesOf l)) ((rw first-are at e) ∙ sym first-many), first-are)
-
-  -- what is placed by the numbers of the rules
-  pub grouped-numbers : run (step p) c (choicesOf (take (length l) (y ∷ l))) .steps ≡ length l → (row : List ℕ)
-      → placedList (y ∷ l) (fronted (map ruleNumber (ruled (step p) c (choicesOf (take (length l) (y ∷ l))))) row) ≡ map choiceWord (groupedList y l (ruled (step p) c (choicesOf (take (length l) (y ∷ l)))))
-  grouped-numbers e row =
-      let rs = ruled (step p) c (choicesOf (take (length l) (y ∷ l))) in
-      let many : length rs ≡ length (initOf (choiceOf y) (choicesOf l)) = ruled-many (step p) c (choicesOf (take (length l) (y ∷ l))) ∙ e ∙ sym first-many in
-      let rest = drop (length (map ruleNumber rs)) row in
-      ap (λ (t : List Rule). placedList (y ∷ l) (map ruleNumber t ++ rest)) (sym (paired-rules (initOf (choiceOf y) (choicesOf l)) rs many))
-      ∙ placed-regroup y l (paired (initOf (choiceOf y) (choicesOf l)) rs) rest (paired-choices (initOf (choiceOf y) (choicesOf l)) rs many)
+  before-many : length (butLast (choicesOf l)) ≡ n
+  before-many = ap length (sym before-are) ∙ length-map (take n l) choiceOf ∙ length-take-le l n (omega (arith, some-are))
 
 module _ (q : Tables) (c : Held) (l : List ℕ) (room : ℕ) where
   -- 20
@@ -117,30 +93,16 @@ module _ (q : Tables) (c : Held) (l : List ℕ) (room : ℕ) where
     module _ (n : ℕ) (some-are : suc n ≡ length l) (few : length l ≤ CHOICES) (fits : length l ≤ room) where
       -- 22
       pub grouped-22 : (run (step (programOf q)) (configOf (programOf q) c) (choicesOf (take n l)) .steps ≡ n → ⊥) → regroupOf q c l room ≡ wroteNothing TookNoStep
-      grouped-22 short = grouped-else few fits ∙ ap listed (go l some-are short)
-        where
-          go : (l : List ℕ) → suc n ≡ length l → (run (step (programOf q)) (configOf (programOf q) c) (choicesOf (take n l)) .steps ≡ n → ⊥)
-              → regroup (programOf q) (configOf (programOf q) c) (choicesOf l) ≡ none
-          go [] e h = absurd (omega (arith, e))
-          go (y ∷ l) e h =
-              let is : n ≡ length l = omega (arith, e) in
-              regroup-none (programOf q) (configOf (programOf q) c) y l (subst (λ (k : ℕ). run (step (programOf q)) (configOf (programOf q) c) (choicesOf (take k (y ∷ l))) .steps ≡ k → ⊥) is h)
+      grouped-22 short = grouped-else few fits
+          ∙ ap listed (regroup-none (step (programOf q)) (configOf (programOf q) c) (choicesOf l) (λ e. short (rw (before-are l n some-are) (e ∙ before-many l n some-are))))
 
       -- 0: what is placed by the numbers of the rules is what is written
       pub grouped-0 : run (step (programOf q)) (configOf (programOf q) c) (choicesOf (take n l)) .steps ≡ n → (row : List ℕ)
           → (regroupOf q c l room .answer ≡ Done)
           × (placedList l (fronted (map ruleNumber (ruled (step (programOf q)) (configOf (programOf q) c) (choicesOf (take n l)))) row) ≡ numbersOf (regroupOf q c l room))
-      grouped-0 all row = rw (grouped-else few fits) (go l some-are all)
-        where
-          go : (l : List ℕ) → suc n ≡ length l → run (step (programOf q)) (configOf (programOf q) c) (choicesOf (take n l)) .steps ≡ n
-              → (listed (regroup (programOf q) (configOf (programOf q) c) (choicesOf l)) .answer ≡ Done)
-              × (placedList l (fronted (map ruleNumber (ruled (step (programOf q)) (configOf (programOf q) c) (choicesOf (take n l)))) row)
-              ≡ numbersOf (listed (regroup (programOf q) (configOf (programOf q) c) (choicesOf l))))
-          go [] e h = absurd (omega (arith, e))
-          go (y ∷ l) e h =
-              let is : length l ≡ n = omega (arith, e) in
-              let stepped : run (step (programOf q)) (configOf (programOf q) c) (choicesOf (take (length l) (y ∷ l))) .steps ≡ length l = rw is h in
-              rw (← is, regroup-some (programOf q) (configOf (programOf q) c) y l stepped) (refl, grouped-numbers (programOf q) (configOf (programOf q) c) y l stepped row)
+      grouped-0 all row =
+          let placed = regroup-placed (step (programOf q)) (configOf (programOf q) c) l ((rw (before-are l n some-are) at all) ∙ sym (before-many l n some-are)) in
+          rw (grouped-else few fits, placed .1, before-are l n some-are) (refl, placed .2 _)
 
 -- WHAT REGROUP GIVES: its answer, and what the output buffer holds then
 pub record GroupedAs (q : Tables) (c : Held) (l out : List ℕ) (r : Answer) (out′ : List ℕ) : Type 0 where

@@ -2,6 +2,7 @@
 use mathlib.Core.Path.{_≡_, refl, sym, ap, _∙_}
 use mathlib.Core.Option.{Option, none, some}
 use mathlib.Core.List.{List, [], _∷_, _++_, map, append-assoc, cons-ne-nil}
+use lib.ListN.{length, take}
 
 -- The list x ∷ l without its last element, and that element.
 module _ {A : Type 0} where
@@ -19,6 +20,11 @@ module _ {A : Type 0} where
   pub init-last : (x : A) (l : List A) → initOf x l ++ lastOf x l ∷ [] ≡ x ∷ l
   init-last x [] = refl
   init-last x (y ∷ l) = rw (init-last y l)
+
+  -- all of x ∷ l but the last are its first elements
+  pub take-init : (x : A) (l : List A) → take (length l) (x ∷ l) ≡ initOf x l
+  take-init x [] = refl
+  take-init x (y ∷ l) = rw (take-init y l)
 
   -- a list without its last element
   abbrev pub butLast : List A → List A
@@ -54,6 +60,16 @@ module _ {A : Type 0} where
       ∙ butLast-snoc (p ++ a ∷ initOf b q) (lastOf b q)
 
 module _ {A B : Type 0} (f : A → B) where
+  -- the images of all but the last
+  pub map-init : (x : A) (l : List A) → map f (initOf x l) ≡ initOf (f x) (map f l)
+  map-init x [] = refl
+  map-init x (y ∷ l) = rw (map-init y l)
+
+  -- and of the last
+  pub map-last : (x : A) (l : List A) → f (lastOf x l) ≡ lastOf (f x) (map f l)
+  map-last x [] = refl
+  map-last x (y ∷ l) = map-last y l
+
   -- images of two lists
   pub map-append : (l m : List A) → map f (l ++ m) ≡ map f l ++ map f m
   map-append [] m = refl

@@ -6,7 +6,7 @@ use native.Mathlib.Omega.{arith}
 use lib.ListN.{length, getD, take, drop, length-append, length-map, length-take, drop-of-length-le}
 use lib.Seq.{sets, length-sets}
 use Rattle.lists.specs.Facts.{All-each}
-use Rattle.lists.specs.Ends.{initOf, lastOf, map-append}
+use Rattle.lists.specs.Ends.{lastOf, take-init, map-append}
 use Rattle.regrouping.specs.Regrouped.{mine, others, byNumber, weave}
 use Rattle.regrouping.specs.Demand.{choices}
 use Rattle.placing.specs.Placed.{owner, ownerAt, withRules, ownN, meetN, placedList}
@@ -26,11 +26,6 @@ pub record Handed (cs out : List ℕ) : Type 0 where
 pub lists-handed : {cs out : List ℕ} → Handed cs out → Lists cs out (length cs - 1)
 lists-handed h = record { inside = omega (arith, h .some); room = omega (arith, h .some, h .room) }
 
--- the choices before the last by their places
-init-taken : (x : ℕ) (l : List ℕ) → initOf x l ≡ take (length l) (x ∷ l)
-init-taken x [] = refl
-init-taken x (y ∷ l) = ap (λ m. x ∷ m) (init-taken y l)
-
 -- the last choice by its place
 last-got : (x : ℕ) (l : List ℕ) → lastOf x l ≡ getD (x ∷ l) (length l) 0
 last-got x [] = refl
@@ -42,7 +37,7 @@ unfolding placedList
 placed-is [] rules last e = absurd (omega arith)
 placed-is (x ∷ l) rules last e =
     let n : length l ≡ last = omega arith in
-    rw (init-taken x l, last-got x l, n)
+    rw (← take-init x l, last-got x l, n)
 
 module _ {cs rules : List ℕ} {last : ℕ} {out₀ who₁ since₁ out₁ : List ℕ} {o used₁ : ℕ} {who₂ since₂ : List ℕ} {used₂ r : ℕ}
     (ask : Lists cs out₀ last) (w : Weaving cs rules last out₀ who₁ since₁ out₁ last o used₁)

@@ -5,7 +5,7 @@ use mathlib.Core.List.{List, [], _∷_, _++_, map, map-map, cons-ne-nil}
 use Rattle.lists.specs.Lists.{All}
 use Rattle.lists.specs.Facts.{All-each, All-map}
 use Rattle.lists.specs.Keep.{All-image, image-All}
-use Rattle.lists.specs.Ends.{initOf, lastOf, map-append}
+use Rattle.lists.specs.Ends.{initOf, lastOf, map-init, map-last, map-append}
 use Rattle.machines.specs.Config.{Choice}
 use Rattle.rules.specs.declared.Rule.{Rule}
 use Rattle.choices.specs.Choices.{choiceWord, choiceOf, choicesOf, word-again, bits-small, choice-again}
@@ -23,16 +23,6 @@ numbered e = (choiceWord (e .0), ruleNumber (e .1))
 -- the numbers of the rules of labelled choices
 abbrev pub ruleNumbers : List (Choice × Rule) → List ℕ
 ruleNumbers m = map ruleNumber (map (λ e. e .1) m)
-
--- all but the last of a list of images
-init-map : (x : ℕ) (l : List ℕ) → initOf (choiceOf x) (choicesOf l) ≡ choicesOf (initOf x l)
-init-map x [] = refl
-init-map x (y ∷ l) = ap (λ m. choiceOf x ∷ m) (init-map y l)
-
--- and the last
-last-map : (x : ℕ) (l : List ℕ) → lastOf (choiceOf x) (choicesOf l) ≡ choiceOf (lastOf x l)
-last-map x [] = refl
-last-map x (y ∷ l) = last-map y l
 
 -- choices with their rules' numbers are the labelled choices as numbers
 withRules-numbered : (l : List ℕ) (m : List (Choice × Rule)) (more : List ℕ) → choices m ≡ choicesOf l → withRules l (ruleNumbers m ++ more) ≡ map numbered m
@@ -60,7 +50,7 @@ placed-regroup x l m more e =
     ∙ ap (λ w. w ++ lastOf x l ∷ []) (map-map (λ e. e .0) numbered w ∙ sym (map-map choiceWord (λ e. e .0) w))
     ∙ ap (λ n. map choiceWord (choices w) ++ n ∷ []) (sym (word-again (lastOf x l)))
     ∙ sym (map-append choiceWord (choices w) (choiceOf (lastOf x l) ∷ []))
-    ∙ ap (λ z. map choiceWord (choices (regrouped (ownE Rule own) (meetE Choice meets) (own z) m) ++ z ∷ [])) (sym (last-map x l))
+    ∙ ap (λ z. map choiceWord (choices (regrouped (ownE Rule own) (meetE Choice meets) (own z) m) ++ z ∷ [])) (map-last choiceOf x l)
   where
     k : ℕ
     k = owner (lastOf x l)
@@ -69,7 +59,7 @@ placed-regroup x l m more e =
     w = regrouped (ownE Rule own) (meetE Choice meets) k m
 
     is : choices m ≡ choicesOf (initOf x l)
-    is = e ∙ init-map x l
+    is = e ∙ sym (map-init choiceOf x l)
 
     owns : All (λ e. owner (choiceWord (e .0)) ≡ e .0 .machine) m
     owns = All-map _ _ m (λ e h. ap (λ y. y .machine) (choice-again (e .0) h)) (bits-of (initOf x l) m is)
