@@ -1,6 +1,6 @@
 -- A choice as one number: its machine and its bits. Any number is a choice, so that no list that is lent can upset a run: "In a lent list any number not live, 0 too, is 19."
 use Prim.Native.Nat.{ℕ, _+_, _*_, _/_, _%_, _<_}
-use mathlib.Core.Path.{_≡_, refl}
+use mathlib.Core.Path.{_≡_}
 use mathlib.Core.List.{List, map}
 use native.Mathlib.Omega.{arith}
 use Rattle.machines.specs.Config.{Choice}

@@ -2,8 +2,7 @@
 use Prim.Native.Nat.{ℕ, suc, _-_, _≤_, _<_}
 use mathlib.Core.Path.{_≡_, refl, ap, sym, _∙_, subst}
 use mathlib.Core.Bool.{Bool, true, false, not}
-use mathlib.Core.Option.{Option, none, some, Option·map}
-use mathlib.Core.List.{List, [], _∷_, _++_, map}
+use mathlib.Core.List.{List, [], _∷_, map}
 use native.Mathlib.Omega.{arith}
 use lib.ListN.{length, take, length-map}
 use lib.Seq.{length-take-le}
@@ -13,17 +12,14 @@ use Rattle.lists.specs.Ends.{butLast, take-init, map-init}
 use Rattle.answers.specs.declared.Answer.{Answer}
 use Rattle.answers.specs.declared.Answer.the-variants.{Done, OutOfRange, NotAccepted, BufferTooShort, TookNoStep}
 use Rattle.programs.specs.Sizes.{CHOICES}
-use Rattle.programs.specs.Program.{Program}
-use Rattle.machines.specs.Config.{Config, Choice}
-use Rattle.choices.specs.Choices.{choiceWord, choiceOf, choicesOf}
+use Rattle.choices.specs.Choices.{choiceOf, choicesOf}
 use Rattle.labels.specs.Labels.{ruleNumber}
 use Rattle.runs.specs.Run.{run, ruled}
 use Rattle.soundness.specs.Sound.{sound, sound-is}
-use Rattle.rules.specs.declared.Rule.{Rule}
 use Rattle.rules.specs.Step.{step}
 use Rattle.regrouping.specs.Demand.{regroup as regroupOver}
-use Rattle.meetings.specs.Meetings.{meets, own, regroup}
-use Rattle.public.specs.Public.{Wrote, wroteNothing, listed, publicRegroup}
+use Rattle.meetings.specs.Meetings.{regroup}
+use Rattle.public.specs.Public.{wroteNothing, listed, publicRegroup}
 use Rattle.public.specs.Exact.{regroup-3, regroup-21, regroup-fit}
 use Rattle.tables.specs.declared.Program.{Program as Tables}
 use Rattle.tables.specs.Decode.{programOf}

@@ -15,7 +15,6 @@ use Rattle.configs.specs.declared.Config.{Config as Held}
 use Rattle.configs.specs.Decode.{configOf}
 use Rattle.configs.specs.Encode.{written}
 use Rattle.handed.specs.Handed.{fit}
-use Rattle.handed_runs.specs.declared.Ending.{Ending}
 use Rattle.handed_runs.specs.declared.Ran.{Ran}
 
 -- the definitions' run, with its last configuration written

@@ -3,26 +3,21 @@ use Prim.Native.Nat.{ℕ, _≤_, _<_}
 use mathlib.Core.Path.{_≡_, refl, ap, sym, _∙_, subst}
 use mathlib.Core.Bool.{Bool, true, false, not, cond}
 use mathlib.Core.List.{List, [], map}
-use borrow.Author.Tests.{le-leb, lt-leb}
 use lib.Dec.{leb}
 use lib.ListN.{length, take, length-map}
 use lib.Seq.{take-length}
 use Rattle.lists.specs.Facts.{not-true}
-use Rattle.lists.specs.Tells.{Tells, both, refuted, denied, agree}
+use Rattle.lists.specs.Tells.{Tells, refuted, denied, agree}
 use Rattle.answers.specs.declared.Answer.{Answer}
 use Rattle.answers.specs.declared.Answer.the-variants.{OutOfRange, NotAccepted}
 use Rattle.programs.specs.Sizes.{CHOICES}
-use Rattle.programs.specs.Program.{Program}
-use Rattle.machines.specs.Config.{Config, Choice}
 use Rattle.runs.specs.Run.{Ended, run, ruled}
 use Rattle.rules.specs.declared.Rule.{Rule}
 use Rattle.rules.specs.Step.{step}
-use Rattle.soundness.specs.Sound.{Sound, sound, sound-is}
-use Rattle.acceptance.specs.Accepted.{Accepted}
-use Rattle.acceptance.specs.Decide.{accepted-is}
+use Rattle.soundness.specs.Sound.{sound, sound-is}
 use Rattle.public.specs.Public as public
 use Rattle.public.specs.Public.{publicRules, ran}
-use Rattle.public.specs.Exact.{run-3, run-fit}
+use Rattle.public.specs.Exact.{run-3, run-fit, rules-fit, rules-3}
 use Rattle.tables.specs.declared.Program.{Program as Tables}
 use Rattle.tables.specs.Decode.{programOf}
 use Rattle.configs.specs.declared.Config.{Config as Held}
@@ -63,16 +58,6 @@ pub record Left (q : Tables) (f : Flat) (l row : List ℕ) (r : Ending) (g : Fla
   pub sized : Sized g
   pub done : RanAs q (held f) l row (ranWith (held g) r) row′
 
--- the rules of a list that is not too long,
-rules-fit : (p : Program) (c : Config) (xs : List Choice) → Sound p → Accepted p c → length xs ≤ CHOICES → publicRules p c xs ≡ ruled (step p) c xs
-unfolding publicRules public.fit
-rules-fit p c xs s h k = rw (both (sound-is p) (accepted-is p c) .test (s, h), le-leb (length xs) CHOICES k)
-
--- and of one that is
-rules-3 : (p : Program) (c : Config) (xs : List Choice) → Sound p → Accepted p c → CHOICES < length xs → publicRules p c xs ≡ []
-unfolding publicRules public.fit
-rules-3 p c xs s h k = rw (both (sound-is p) (accepted-is p c) .test (s, h), lt-leb (length xs) CHOICES k)
-
 module _ (q : Tables) (c : Held) (l row : List ℕ) where
   -- 20: nothing is run
   run-unfit : (Fit q c → ⊥) → RanAs q c l row (stoppedAt c NotAccepted) row
@@ -107,7 +92,7 @@ module _ (q : Tables) (c : Held) (l row : List ℕ) where
         let long : CHOICES < length (choicesOf l) = subst (λ (n : ℕ). CHOICES < n) (sym many) k in
         record {
           ran = sym (run-public ∙ ap ranAs (run-3 (programOf q) (configOf (programOf q) c) (choicesOf l) (h .0, h .1 .0) long) ∙ ap (λ (d : Held). stoppedAt d OutOfRange) (h .1 .1));
-          rules = ap (λ (xs : List ℕ). fronted xs row) (sym (rules-public ∙ ap (map ruleNumber) (rules-3 (programOf q) (configOf (programOf q) c) (choicesOf l) (h .0) (h .1 .0) long)));
+          rules = ap (λ (xs : List ℕ). fronted xs row) (sym (rules-public ∙ ap (map ruleNumber) (rules-3 (programOf q) (configOf (programOf q) c) (choicesOf l) (h .0, h .1 .0) long)));
         }
 
     -- THE RUN: what its loop leaves
@@ -118,7 +103,7 @@ module _ (q : Tables) (c : Held) (l row : List ℕ) where
           ran = (λ i. ranWith (d .holds i) (d .ends i)) ∙ ap (λ (ys : List ℕ). ranAs (ran (run (step (programOf q)) (configOf (programOf q) c) (choicesOf ys)))) (take-length l)
               ∙ sym (run-public ∙ ap ranAs (run-fit (programOf q) (configOf (programOf q) c) (choicesOf l) (h .0, h .1 .0) few));
           rules = d .rules ∙ ap (λ (ys : List ℕ). fronted (map ruleNumber (ruled (step (programOf q)) (configOf (programOf q) c) (choicesOf ys))) row) (take-length l)
-              ∙ ap (λ (xs : List ℕ). fronted xs row) (sym (rules-public ∙ ap (map ruleNumber) (rules-fit (programOf q) (configOf (programOf q) c) (choicesOf l) (h .0) (h .1 .0) few)));
+              ∙ ap (λ (xs : List ℕ). fronted xs row) (sym (rules-public ∙ ap (map ruleNumber) (rules-fit (programOf q) (configOf (programOf q) c) (choicesOf l) (h .0, h .1 .0) few)));
         }
 
 module _ (q : Tables) (f : Flat) (l row : List ℕ) (z : Laid q f) {b : Bool} (t : Tells b (IsOne (programOf q) f)) where
