@@ -1,5 +1,5 @@
 // Table K of document 01 as calls of the code, a line for each row: a value; or a step's rule with the event that `msg` is and the first events that wait; or
-// an answer. (The row K12 is a call of the regrouper.)
+// an answer; or, for K12, the regrouped list, each choice with its machine and its place in the list before.
 use answers::Answer;
 use configs::Config;
 use configs::Room;
@@ -262,6 +262,43 @@ fn full_queue() -> Config {
     config(m)
 }
 
+// Machine `number` with its row: skips, the send of statement 1, and a skip behind it.
+fn working_machine(number: u32, count: usize) -> Room {
+    let mut m = waiting_machine();
+    let this = Live(number);
+    m.this = this;
+    m.values[16] = 17179869184 + number as u64;
+    m.count = count;
+    m.parts[1] = 1;
+    m
+}
+
+// Machine 1, which takes two private steps, a meeting and a private step; machine 2, which takes one, a meeting and one.
+fn two_working() -> Config {
+    let mut c = config(working_machine(1, 4));
+    c.rooms[1] = working_machine(2, 3);
+    c.next = 3;
+    c
+}
+
+// A row whose call gives a regrouped list.
+fn regroup_row(k: u64, program: Program, c: Config) {
+    write_row(k);
+    let list: [u32; 7] = [257, 514, 259, 516, 261, 518, 263];
+    let mut out: [u32; 7] = [0; 7];
+    let answer = grouping::regroup(program, c, &list, &mut out);
+    io::write_all(1, b"answer ");
+    write_number(number(answer) as u64);
+    for i in 0..7 {
+        io::write_all(1, b" ");
+        let machine = choices::machine_of(out[i]);
+        write_number(machine.0 as u64);
+        io::write_all(1, b":");
+        write_number(choices::bits_of(out[i]) as u64);
+    }
+    io::write_all(1, b"\n");
+}
+
 fn main() {
     value_row(
         1,
@@ -283,4 +320,5 @@ fn main() {
     step_row(9, program(), map_deferring(2 * EVENT));
     step_row(10, sending(3), full_queue());
     step_row(11, sending(99), full_queue());
+    regroup_row(12, sending(3), two_working());
 }
