@@ -17,6 +17,7 @@ use Rattle.rows.specs.Seek.{table, table-length}
 use Rattle.values.specs.Values.{idOf}
 use Rattle.programs.specs.Sizes.{SPENT}
 use Rattle.programs.specs.Program.{Program}
+use Rattle.tables.specs.Numbered.{table-all}
 use Rattle.acceptance.specs.Accepted.{RoomOk, MachineOk, Distinct, Accepted}
 use Rattle.codes.specs.Codes.{codeOf}
 use Rattle.configs.specs.declared.Room.{Room}
@@ -32,13 +33,6 @@ pub record RoomFit (p : Program) (f : Flat) (k : ℕ) : Type 0 where
 
 -- a table of what holds of each
 module _ {A : Type 0} (P : A → Type 0) (g : ℕ → A) where
-  table-all : (k n : ℕ) → ((j : ℕ) → j < n → P (g (k + j))) → All P (table g k n)
-  unfolding table
-  table-all k zero h = tt
-  table-all k (suc n) h =
-      let z : k + 0 ≡ k = omega arith in
-      (rw z at (h 0 (omega arith)), table-all (k + 1) n (λ j b. let e : k + suc j ≡ k + 1 + j = omega arith in rw e at (h (suc j) (omega arith))))
-
   all-table : (k n : ℕ) → All P (table g k n) → (j : ℕ) → j < n → P (g (k + j))
   unfolding table
   all-table k zero h j b = absurd (omega arith)
@@ -47,7 +41,7 @@ module _ {A : Type 0} (P : A → Type 0) (g : ℕ → A) where
 
   -- from place 0 on
   up-table : (n : ℕ) → ((j : ℕ) → j < n → P (g j)) → All P (table g 0 n)
-  up-table n h = table-all 0 n (λ j b. rw (zero-add j) (h j b))
+  up-table n h = table-all P g 0 n (λ j a b. h j (omega arith))
 
   table-up : (n : ℕ) → All P (table g 0 n) → (j : ℕ) → j < n → P (g j)
   table-up n h j b = rw (zero-add j) at (all-table 0 n h j b)

@@ -1,5 +1,5 @@
 -- The values of `init`, one after the other: what the loop of src/lib.rt has worked out after j of the pairs, and that in the end it is what the definitions have.
-use Prim.Native.Nat.{ℕ, zero, suc, _+_, _-_, _*_, _/_, _%_, _^_, _≤_, _<_}
+use Prim.Native.Nat.{ℕ, zero, suc, _+_, _*_, _/_, _%_, _^_, _≤_, _<_}
 use mathlib.Core.Path.{_≡_, refl, sym, ap, _∙_, subst}
 use mathlib.Core.Logic.{dite}
 use mathlib.Core.Option.{Option, none, some}
@@ -10,11 +10,12 @@ use native.Mathlib.Nat.{div-le-self}
 use native.Mathlib.Numerals.{add-one}
 use native.Mathlib.Omega.{arith}
 use lib.Dec.{eqb}
-use lib.ListN.{length, drop, getD, set, length-map, length-set, List·getD-map, drop-of-length-le}
-use lib.Seq.{ext-getD, drop-cons, getD-set-same, getD-set-other}
+use lib.ListN.{length, drop, getD, set, replicate, length-map, length-set, List·getD-map, drop-of-length-le}
+use lib.Seq.{drop-cons, getD-set-same, getD-set-other}
 use Rattle.lists.specs.Lists.{at}
 use Rattle.lists.specs.Facts.{has, first-has, or-right, All-at}
-use Rattle.rows.specs.Seek.{table-length}
+use Rattle.rows.specs.Pad.{zeros-replicate}
+use Rattle.rows.specs.Part.{put, put-over}
 use Rattle.values.specs.declared.Value.{Value}
 use Rattle.values.specs.declared.Value.the-variants.{Undefined as undefined}
 use Rattle.values.specs.Values.{suits}
@@ -30,12 +31,12 @@ use Rattle.rules.specs.Act as act
 use Rattle.codes.specs.Codes.{codeOf, valueOf}
 use Rattle.tables.specs.Decode as decode
 use Rattle.tables.specs.Decode.{noVariable, pairIn, pairsOf}
-use Rattle.tables.specs.Tables.{pairs-length, pairs-get}
+use Rattle.tables.specs.Tables.{variables-length, pairs-length, pairs-get}
 use Rattle.index.specs.Index.{Places}
 use Rattle.evaluation.specs.Evaluated.{REST, evaluated, Readable}
 use Rattle.configs.specs.Flat.{Flat}
 use Rattle.engine.specs.Engine.{Stands}
-use Rattle.stored.specs.Stored.{place-own, place-there, readable, gives-code, gives-value, gives-rest}
+use Rattle.stored.specs.Stored.{place-own, place-there, place-16, readable, gives-code, gives-value, gives-rest}
 use Rattle.sending.specs.Heads.{head-refers}
 
 -- THE VALUES vs WRITTEN in the 19 places of `out`: a place for each of 16 variables, and three more that are zero
@@ -44,25 +45,9 @@ pub record Written (vs : List Value) (out : List ℕ) : Type 0 where
   pub values : (j : ℕ) → j < 16 → getD out j 0 ≡ codeOf (getD vs j undefined)
   pub rest : (j : ℕ) → 16 ≤ j → getD out j 0 ≡ 0
 
--- the first n of them zero
-pub record Cleared (n : ℕ) (out : List ℕ) : Type 0 where
-  pub size : length out ≡ 19
-  pub zeros : (j : ℕ) → j < n → getD out j 0 ≡ 0
-
--- none
-pub cleared-none : (out : List ℕ) → length out ≡ 19 → Cleared 0 out
-cleared-none out e = record { size = e; zeros = λ j b. absurd (omega arith) }
-
--- one more
-pub cleared-more : (n : ℕ) (out : List ℕ) → n < 19 → Cleared n out → Cleared (n + 1) (set out n 0)
-cleared-more n out h c = record {
-  size = length-set out n 0 ∙ c .size;
-  zeros = λ j b. dite (ℕ-discrete j n) (λ e. rw e (getD-set-same out n 0 0 (omega (arith, c .size)))) (λ e. getD-set-other out n j 0 0 e ∙ c .zeros j (omega (arith, e)));
-}
-
--- and all, which is one list
-cleared-is : (out blank : List ℕ) → Cleared 19 out → length blank ≡ 19 → ((j : ℕ) → getD blank j 0 ≡ 0) → out ≡ blank
-cleared-is out blank h e z = ext-getD 0 out blank (h .size ∙ sym e) (λ j b. h .zeros j (omega (arith, h .size)) ∙ sym (z j))
+-- zeros in all of them, which is one list
+cleared-is : (out blank : List ℕ) → length out ≡ 19 → length blank ≡ 19 → ((j : ℕ) → getD blank j 0 ≡ 0) → put 0 (replicate 19 0) out ≡ blank
+cleared-is out blank e f z = put-over (replicate 19 0) out (sym e) ∙ sym (zeros-replicate 0 19 blank f (λ k h. z k))
 
 -- where nothing is set, all are zero
 pub written-blank : (xs : List Variable) (out : List ℕ) → length out ≡ 19 → ((j : ℕ) → getD out j 0 ≡ 0) → Written (map (λ v. undefined) xs) out
@@ -149,8 +134,7 @@ module _ {k z n w : ℕ} {exprs places kinds types inits values out₀ : List �
 
     -- whose number is one of 257,
     pub variable-small : getD inits ((z + j) * 2) 0 < 257
-    unfolding decode.variablesOf
-    variable-small = omega (arith, variable-of .0 .1, ap length (q .variables-are), table-length (decode.variableIn kinds types) 1 (decode.count 256 kinds))
+    variable-small = omega (arith, variable-of .0 .1, ap length (q .variables-are), variables-length kinds types)
 
     -- whose place stands in `places`,
     place-is : getD places (getD inits ((z + j) * 2) 0) 0 ≡ place (q .p) (q .kind) (getD inits ((z + j) * 2) 0)
@@ -158,7 +142,7 @@ module _ {k z n w : ℕ} {exprs places kinds types inits values out₀ : List �
 
     -- and is one of 16
     pub place-small : getD places (getD inits ((z + j) * 2) 0) 0 < 16
-    place-small = omega (arith, place-is, place-there (q .p) (q .sound) places (q .places-are) (q .kind) (getD inits ((z + j) * 2) 0) variable-of, few)
+    place-small = place-16 (q .p) (q .sound) places (q .places-are) (getD inits ((z + j) * 2) 0)
 
     -- its expression is one of the head's
     expr-of : has (getD inits ((z + j) * 2 + 1) 0) (statements.exprsOf (stmtAt (q .p) (q .s)))
@@ -196,8 +180,8 @@ module _ {k z n w : ℕ} {exprs places kinds types inits values out₀ : List �
           ∙ ap (λ l. act.inits (q .p) (q .m .this) (q .m .loc) w (q .kind) l (work .taken) (work .vs)) (sym (drop-cons (pairsOf inits z n) j (0, 0) h)) ∙ work .same
 
       -- the value does not suit
-      pub inits-wrong : false ≡ suits (at noVariable (decode.variablesOf kinds types) (getD inits ((z + j) * 2) 0) .type) (valueOf (u % REST)) → (clear : List ℕ) → Cleared 19 clear → Begun false clear
-      inits-wrong t clear d = (sym opened ∙ rw (tested false t), cleared-is clear out₀ d (q .out-size) (q .out-zero))
+      pub inits-wrong : false ≡ suits (at noVariable (decode.variablesOf kinds types) (getD inits ((z + j) * 2) 0) .type) (valueOf (u % REST)) → (clear : List ℕ) → clear ≡ put 0 (replicate 19 0) out → Begun false clear
+      inits-wrong t clear d = (sym opened ∙ rw (tested false t), d ∙ cleared-is out out₀ (work .written .size) (q .out-size) (q .out-zero))
 
       -- it does
       pub inits-more : true ≡ suits (at noVariable (decode.variablesOf kinds types) (getD inits ((z + j) * 2) 0) .type) (valueOf (u % REST))

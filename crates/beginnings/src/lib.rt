@@ -1,53 +1,17 @@
 // What a new machine begins with: the values of its `init`, worked out by its creator, and its kind's first state.
+use copies::clear_u64;
 use tables::Program;
+use tables::index;
+use tables::rows_from;
+use tables::wide;
 ghost use mathlib.Core.Path.{_≡_};
-ghost use Prim.Native.Nat.{_-_, min};
-ghost use lib.ListN.{length};
-ghost use Rattle.beginnings.specs.Inits.{Cleared, InitsAsked, Begun};
+ghost use Prim.Native.Nat.{_-_};
+ghost use Rattle.beginnings.specs.Inits.{InitsAsked, Begun};
 ghost use Rattle.beginnings.specs.Initial.{initialIn};
 ghost use Rattle.tables.specs.Decode.{PAIRS};
 
 // Where the bits begin in what an expression gives: above every value's number.
 const REST: u64 = 1099511627776;
-
-// A number of 16 bits, as an index.
-fn wide(x: u16) -> usize
-    ensures { λ r. ⌜ r ≡ x ⌝ }
-{
-    x as usize
-}
-
-// A byte, as an index.
-fn index(x: u8) -> usize
-    ensures { λ r. ⌜ r ≡ x ⌝ }
-{
-    x as usize
-}
-
-// How many of the n pairs from place i on the pool has.
-fn pairs_there(i: usize, n: usize) -> usize
-    ensures { λ r. ⌜ r ≡ min n (PAIRS - i) ⌝ }
-{
-    if Program::PAIRS <= i {
-        return 0;
-    }
-    if n <= Program::PAIRS - i {
-        return n;
-    }
-    Program::PAIRS - i
-}
-
-// No value at all.
-fn clear(out: &mut [u64; Program::VARIABLES + 3])
-    requires { ⌜ length (now out) ≡ 19 ⌝ }
-    ensures { λ _. ⌜ Cleared 19 (now (out .exit)) ⌝ }
-{
-    let mut j: usize = 0;
-    while j < Program::VARIABLES + 3 {
-        out[j] = 0;
-        j += 1;
-    }
-}
 
 // THE VALUES OF `init`: the n pairs from place z on, each value worked out in the machine in room k and put to its variable's place; false where one does not suit, and
 // then `out` as it was, without a value.
@@ -69,7 +33,7 @@ pub fn init_values<'a>(
 {
     let at = k * (Program::VARIABLES + 3);
     let first = wide(z);
-    let count = pairs_there(first, wide(n));
+    let count = rows_from(Program::PAIRS, first, wide(n));
     let mut rest = w;
     let mut j: usize = 0;
     while j < count {
@@ -78,7 +42,7 @@ pub fn init_values<'a>(
         let u = evaluation::eval(exprs, places, values, at, e, rest);
         let ty = tables::variable_type(kinds, types, x);
         if !values::suits(ty, codes::value_of(u % REST)) {
-            clear(out);
+            clear_u64(out, 0, Program::VARIABLES + 3);
             return false;
         }
         out[index(places[x])] = u % REST;

@@ -1,32 +1,16 @@
 // The test of a room's queue that is handed in: its count, its pairs, and zeros behind them. What is asked of it stands in specs/Queues.antt.
 use checked_values::pair_ok;
+use queues::holds;
 use tables::Program;
 use zeros::zero_u64;
 ghost use mathlib.Core.Path.{_≡_};
 ghost use Prim.Native.Nat.{_+_, _*_, _≤_, _<_};
-ghost use lib.Dec.{eqb};
 ghost use lib.ListN.{length, getD};
-ghost use Rattle.lists.specs.Lists.{any};
 ghost use Rattle.lists.specs.Tells.{Tells};
 ghost use Rattle.rows.specs.Part.{part};
 ghost use Rattle.programs.specs.Program.{Program as Lines};
 ghost use Rattle.tables.specs.Decode.{eventsOf};
 ghost use Rattle.checked_queues.specs.Queues.{Apart, QueueHeld};
-
-// Whether x is one of the n numbers from place b on.
-fn holds(pairs: &[u64; Program::ROOMS * Program::QUEUE], b: usize, n: usize, x: u64) -> bool
-    requires { ⌜ (length (now pairs) ≡ 512) × (b + n ≤ 512) ⌝ }
-    ensures { λ r. ⌜ r ≡ any (eqb x) (part b n (now (pairs .entry))) ⌝ }
-{
-    let mut k: usize = 0;
-    while k < n {
-        if pairs[b + k] == x {
-            return true;
-        }
-        k += 1;
-    }
-    false
-}
 
 // Whether the n numbers from place b on are pairs' numbers, and none stands there twice: from the last to the first, each is looked for behind itself.
 fn pairs_ok(

@@ -7,7 +7,7 @@ use mathlib.Core.Bool.{Bool, true, false, not, cond, true≢false}
 use mathlib.Core.List.{List, reverse}
 use native.Mathlib.Decide.{ℕ-discrete}
 use native.Mathlib.Omega.{arith}
-use borrow.Author.Tests.{ne-eqb}
+use borrow.Author.Tests.{ne-eqb, not-true}
 use lib.Dec.{eqb, leb}
 use lib.ListN.{length, getD}
 use Rattle.lists.specs.Lists.{at, isSome, All, There}
@@ -137,11 +137,7 @@ module _ (stmts heights served : List ℕ) (pending : Bool) (p : Program) (q : P
       there t = (t .0 .0, rw many at (t .0 .1))
 
       marked : There (length (p .stmts)) s × (serves p k s ≡ true) → eqb (getD served (k * 1025 + s) 0) 0 ≡ false
-      marked t = unless _ (says-at (told .serving) k s from-1 kinds (omega (arith, there t .1)) (t .0 .1) ∙ t .1)
-        where
-          unless : (a : Bool) → not a ≡ true → a ≡ false
-          unless true e = sym e
-          unless false e = refl
+      marked t = not-true _ (says-at (told .serving) k s from-1 kinds (omega (arith, there t .1)) (t .0 .1) ∙ t .1)
 
       small : PartOk p k s → s ≤ 1024
       small (inl e) = omega arith

@@ -2,7 +2,9 @@
 // places behind the parts are zero.
 use tables::Head;
 use tables::Program;
+use tables::index;
 use tables::stmt_count;
+use tables::wide;
 use terms::stmt_at;
 use zeros::zero_u16;
 ghost use mathlib.Core.Path.{_≡_};
@@ -14,20 +16,6 @@ ghost use Rattle.machines.specs.Config.{Pending};
 ghost use Rattle.tables.specs.Decode.{headAt};
 ghost use Rattle.parts.specs.Parts.{isSkipHead, isSeqHead};
 ghost use Rattle.checked_rows.specs.CheckedRows.{RowHeld, Told, Asked, Suits, PartFits, PartsFit, HeadFits, alone, one};
-
-// A number of 16 bits, as an index.
-fn wide(x: u16) -> usize
-    ensures { λ r. ⌜ r ≡ x ⌝ }
-{
-    x as usize
-}
-
-// A kind's number, as an index.
-fn index(x: u8) -> usize
-    ensures { λ r. ⌜ r ≡ x ⌝ }
-{
-    x as usize
-}
 
 // How much something pending counts.
 fn counted(pending: bool) -> usize

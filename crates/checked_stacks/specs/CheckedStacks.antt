@@ -23,11 +23,12 @@ use Rattle.acceptance.specs.Accepted.{ReplyOk, FrameOk}
 use Rattle.tables.specs.Decode.{count, statesOf, noState, stateIn, actionsOf, noAction, actionIn}
 use Rattle.tables.specs.Tables.{states-length, actions-length}
 use Rattle.tables.specs.Numbered.{at-row}
+use Rattle.tables.specs.Widths.{padded-part}
 use Rattle.configs.specs.Decode.{downTo, replyOf, frameAt}
 use Rattle.configs.specs.Encode.{replyCode, mapCodes}
 use Rattle.lists.specs.Keep.{All-reverse}
 use Rattle.configs.specs.RoundTrip.{noFrame, code-back}
-use Rattle.configs.specs.Reversed.{padded-part, downTo-at, downTo-length}
+use Rattle.configs.specs.Reversed.{downTo-at, downTo-length}
 use Rattle.zeros.specs.Zeros.{Zeros}
 use Rattle.zeros.specs.Packed.{reverse-down, packed, unpacked}
 use Rattle.checked_stacks.specs.Widths.{rows-flat, down-each, down-all, down-map, take-each, take-all}

@@ -2,6 +2,7 @@
 // action of the kind, and all other places are zero.
 use tables::Program;
 use tables::action_count;
+use tables::index;
 use tables::state_count;
 use zeros::zero_u8;
 ghost use mathlib.Core.Path.{_≡_};
@@ -11,13 +12,6 @@ ghost use Rattle.lists.specs.Tells.{Tells};
 ghost use Rattle.rows.specs.Part.{part};
 ghost use Rattle.programs.specs.Program.{Program as Lines};
 ghost use Rattle.checked_stacks.specs.CheckedStacks.{StackHeld, Told, Asked, StateFits, EntryFits, MapFits, StatesFit, MapsFit};
-
-// A byte, as an index.
-fn index(x: u8) -> usize
-    ensures { λ r. ⌜ r ≡ x ⌝ }
-{
-    x as usize
-}
 
 // A state: it is there, and of the kind.
 fn state_fits(state_of: &[u8; Program::STATES + 1], kind: u8, s: usize) -> bool

@@ -5,6 +5,7 @@ use codes::value_of;
 use tables::Program;
 use tables::event_count;
 use tables::event_type;
+use tables::there;
 use values::Ty;
 use values::Value;
 use values::suits;
@@ -21,16 +22,6 @@ ghost use Rattle.checked_values.specs.Numbers.{ValueNumber, TypedNumber,
 
 // Where a pair's event begins: above every value's number.
 const EVENT: u64 = 1099511627776;
-
-// Whether there is a number e in a table of n.
-fn there(n: usize, e: usize) -> bool
-    ensures { λ r. ⌜ r ≡ there n e ⌝ }
-{
-    if e < 1 {
-        return false;
-    }
-    e <= n
-}
 
 // Whether i is a live number that was handed out: from 1, and below the next one.
 fn handed_out(i: u32, next: u32) -> bool

@@ -1,6 +1,6 @@
 -- What is asked of a room's values that are handed in as a row of 19 numbers: 16 places for the variables of the kind, then `this`, `msg` and `arg`. And
 -- that it is what the test goes through: the variables' numbers one by one, zeros behind them, and the three places of the machine's own.
-use Prim.Native.Nat.{ℕ, _+_, _-_, _≤_}
+use Prim.Native.Nat.{ℕ, _+_, _≤_}
 use mathlib.Core.Path.{_≡_, refl, ap, sym, _∙_}
 use mathlib.Core.List.{List, [], _∷_, _++_, map}
 use native.Mathlib.Omega.{arith}

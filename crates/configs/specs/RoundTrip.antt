@@ -24,6 +24,7 @@ use Rattle.soundness.specs.Sound.{Sound}
 use Rattle.machines.specs.Config.{Reply, action, deferred, nothing, Frame, Pending, idle, raising, returning, Pair, Machine, Config}
 use Rattle.acceptance.specs.Accepted.{ValueOk, PairOk, PendingOk, ReplyOk, FrameOk, MachineOk, RoomOk, Accepted}
 use Rattle.acceptance.specs.Typed.{typed-length, typed-values}
+use Rattle.tables.specs.Widths.{padded-part}
 use Rattle.codes.specs.Codes.{codeOf, valueOf, Holdable}
 use Rattle.codes.specs.Laws.{value-code}
 use Rattle.codes.specs.Pairs.{pairCode, pair-event, pair-value}
@@ -31,7 +32,7 @@ use Rattle.configs.specs.declared.Config.{Config as Held}
 use Rattle.configs.specs.Decode.{downTo, replyOf, pairOf, pendingOf, frameAt, machineOf, roomOf, configOf}
 use Rattle.configs.specs.Encode.{replyCode, pairNumber, heldCode, mapCodes, taken, roomCode, written, Zeroed}
 use Rattle.lists.specs.Keep.{map-back, All-reverse, map-reverse}
-use Rattle.configs.specs.Reversed.{downTo-reverse, padded-part}
+use Rattle.configs.specs.Reversed.{downTo-reverse}
 
 -- a frame that stands in no stack: the default
 abbrev pub noFrame : Frame

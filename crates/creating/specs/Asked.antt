@@ -7,7 +7,6 @@ use native.Mathlib.Omega.{arith}
 use lib.Dec.{eqb}
 use lib.ListN.{length, drop, getD, set, replicate, length-set}
 use Rattle.lists.specs.Lists.{at}
-use Rattle.rows.specs.Seek.{table-length}
 use Rattle.answers.specs.declared.Answer.the-variants.{NoRoom, WrongType}
 use Rattle.values.specs.Values.{idOf}
 use Rattle.programs.specs.Program.{Program, State, new, stmtAt, Init, Entry}
@@ -22,12 +21,14 @@ use Rattle.rules.specs.Act.{does}
 use Rattle.rules.specs.Step as definition
 use Rattle.codes.specs.Codes.{codeOf}
 use Rattle.tables.specs.Decode as decode
+use Rattle.tables.specs.Tables.{variables-length}
 use Rattle.tables.specs.Decode.{pairsOf, stmtsOf, statesOf, noState}
 use Rattle.index.specs.Index.{Places}
 use Rattle.configs.specs.Encode.{free}
 use Rattle.configs.specs.Flat.{Flat, flat, roomAt}
 use Rattle.parts.specs.Parts.{Said, Any, tidied}
 use Rattle.engine.specs.declared.Outcome.{Outcome}
+use Rattle.stored.specs.Stored.{place-16}
 use Rattle.engine.specs.declared.Outcome.the-variants.{Took, Refused}
 use Rattle.engine.specs.Engine.{Stands, Changed, Performed}
 use Rattle.engine.specs.Holding.{RowBecomes}
@@ -39,7 +40,7 @@ use Rattle.sending.specs.Heads.{head-refers}
 use Rattle.beginnings.specs.Inits.{InitsAsked, Begun}
 use Rattle.beginnings.specs.Initial.{initialIn, initial-is}
 use Rattle.creating.specs.Newborn.{LayAsked, NewLaid, own-row, free-placing, new-changed}
-use Rattle.creating.specs.Creating.{withOwn, place-small, claimed, created-spent, created-none, created-done, room-there, still-free}
+use Rattle.creating.specs.Creating.{withOwn, claimed, created-spent, created-none, created-done, room-there, still-free}
 
 -- zeros are zero, and what is behind them, too
 pub zeros : (n j : ℕ) → getD {A = ℕ} (replicate n 0) j 0 ≡ 0
@@ -101,12 +102,11 @@ module _ {k x m z n w : ℕ} {exprs places variables types stmts inits owners en
 
   -- the variable has its place in `places`,
   pub variable-small : x < 257
-  unfolding decode.variablesOf
-  variable-small = omega (arith, named .0 .0 .1, ap length (q .variables-are), table-length (decode.variableIn variables types) 1 (decode.count 256 variables))
+  variable-small = omega (arith, named .0 .0 .1, ap length (q .variables-are), variables-length variables types)
 
   -- one of 16
   pub variable-place : getD places x 0 < 16
-  variable-place = place-small (q .p) (q .sound) lists k (q .own) stands places (q .places-are) x (named .0)
+  variable-place = place-16 (q .p) (q .sound) places (q .places-are) x
 
   -- the room is one of 32
   pub room-32 : k < 32

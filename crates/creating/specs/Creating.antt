@@ -30,7 +30,7 @@ use Rattle.engine.specs.declared.Outcome.the-variants.{Took, Refused}
 use Rattle.engine.specs.Engine.{Stands, Changed, Performed}
 use Rattle.engine.specs.Holding.{RowBecomes, untouched, touched}
 use Rattle.remaining.specs.Held.{changed, remains-changed}
-use Rattle.stored.specs.Stored.{place-own, place-there, variables-count, variables-16, variable-set}
+use Rattle.stored.specs.Stored.{variable-set, place-16}
 use Rattle.rooms.specs.Places.{First, fill-set, fill-none}
 use Rattle.rooms.specs.Standing.{Lives, room-is, next-is, free-here, free-before, change-written, local-written}
 
@@ -39,10 +39,6 @@ abbrev pub withOwn : Flat → List ℕ → List ℕ → List ℕ → Flat
 withOwn f values counts parts = flat (f .ids) (f .kinds) (f .depths) (f .states) (f .maps) values counts parts (f .held) (f .waiting) (f .pairs) (f .next)
 
 module _ (p : Program) (sound : Sound p) (f : Flat) (k : ℕ) (m : Machine) (s : Stands p f k m) (places : List ℕ) (here : Places p places) (x : ℕ) (o : VariableOf p (m .loc .kind) x) where
-  -- variable x has one of the machine's 19 places
-  pub place-small : getD places x 0 < 16
-  place-small = omega (arith, place-own p sound places here (m .loc .kind) x o, place-there p sound places here (m .loc .kind) x o, variables-count p f k m sound s, variables-16 p f k m sound s)
-
   -- it holds the id i, and the head is finished
   pub claimed : (i : ℕ) (h : ℕ) (r counts parts : List ℕ) (pending : Bool) → m .loc .row ≡ h ∷ r → pending ≡ not (eqb (getD (f .held) k 0) 0)
       → RowBecomes k (f .counts) (f .parts) Any (λ p r. tidied pending p (0 ∷ drop 1 r)) counts parts
@@ -55,7 +51,7 @@ module _ (p : Program) (sound : Sound p) (f : Flat) (k : ℕ) (m : Machine) (s :
         depths = untouched;
         states = untouched;
         maps = untouched;
-        values = touched k 19 (getD places x 0) (codeOf (idOf i)) (f .values) (omega (arith, place-small));
+        values = touched k 19 (getD places x 0) (codeOf (idOf i)) (f .values) (omega (arith, place-16 p sound places here x));
         counts = change .counts-off;
         parts = change .parts-off;
         held = untouched;

@@ -5,9 +5,10 @@ use beginnings::initial_state;
 use engine::Outcome;
 use rules::Rule;
 use tables::Program;
+use tables::index;
+use tables::wide;
 use values::Live;
 use values::Value;
-ghost use mathlib.Core.Path.{_≡_};
 ghost use mathlib.Core.List.{List};
 ghost use Prim.Native.Nat.{ℕ};
 ghost use Rattle.machines.specs.Config.{Reply};
@@ -19,20 +20,6 @@ const THIS: usize = Program::VARIABLES;
 
 // The next live number is at most this, and then no machine can be created.
 const SPENT: u32 = 65536;
-
-// A number of 16 bits, as an index.
-fn wide(x: u16) -> usize
-    ensures { λ r. ⌜ r ≡ x ⌝ }
-{
-    x as usize
-}
-
-// A byte, as an index.
-fn index(x: u8) -> usize
-    ensures { λ r. ⌜ r ≡ x ⌝ }
-{
-    x as usize
-}
 
 // Machine i, of kind m, in room `to`, which is free: in state n, with these values, at the entry statement.
 pub fn lay_new(

@@ -1,48 +1,12 @@
 // DELETE: a machine's room becomes free, every place of it zero.
+use copies::clear_u8;
+use copies::clear_u16;
+use copies::clear_u64;
 use tables::Program;
-ghost use mathlib.Core.Path.{_≡_};
-ghost use Prim.Native.Nat.{_+_, _≤_, _<_};
-ghost use lib.ListN.{length, replicate};
-ghost use Rattle.rows.specs.Part.{put};
+ghost use Prim.Native.Nat.{_+_, _<_};
 ghost use Rattle.configs.specs.Encode.{free};
 ghost use Rattle.configs.specs.Flat.{flat, Sized};
 ghost use Rattle.laying.specs.Laying.{Placed};
-
-// Zeros in the n places from b on.
-fn clear_u8(to: &mut [u8], b: usize, n: usize)
-    requires { ⌜ b + n ≤ length (now to) ⌝ }
-    ensures { λ _. ⌜ now (to .exit) ≡ put b (replicate n 0) (now (to .entry)) ⌝ }
-{
-    let mut e: usize = 0;
-    while e < n {
-        to[b + e] = 0;
-        e += 1;
-    }
-}
-
-// The same of numbers of 16 bits.
-fn clear_u16(to: &mut [u16], b: usize, n: usize)
-    requires { ⌜ b + n ≤ length (now to) ⌝ }
-    ensures { λ _. ⌜ now (to .exit) ≡ put b (replicate n 0) (now (to .entry)) ⌝ }
-{
-    let mut e: usize = 0;
-    while e < n {
-        to[b + e] = 0;
-        e += 1;
-    }
-}
-
-// The same of numbers of 64 bits.
-fn clear_u64(to: &mut [u64], b: usize, n: usize)
-    requires { ⌜ b + n ≤ length (now to) ⌝ }
-    ensures { λ _. ⌜ now (to .exit) ≡ put b (replicate n 0) (now (to .entry)) ⌝ }
-{
-    let mut e: usize = 0;
-    while e < n {
-        to[b + e] = 0;
-        e += 1;
-    }
-}
 
 // ROOM k BECOMES FREE.
 pub fn delete_on(

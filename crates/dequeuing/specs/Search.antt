@@ -4,8 +4,6 @@ use mathlib.Core.Path.{_≡_, refl, ap, _∙_}
 use mathlib.Core.Option.{none, some}
 use mathlib.Core.Bool.{Bool, true, false}
 use mathlib.Core.List.{List, [], _∷_, map}
-use mathlib.Core.Logic.{dite}
-use native.Mathlib.Decide.{ℕ-discrete}
 use native.Mathlib.Omega.{arith}
 use lib.ListN.{length, getD}
 use lib.Seq.{getD-take}
@@ -46,10 +44,6 @@ search-asked k b n waiting pairs a j h = record { inside = a .inside; state = a 
 -- number j of the queue
 pub number-at : (pairs waiting : List ℕ) (k : ℕ) → QueueOk pairs waiting k → (j : ℕ) → j < getD waiting k 0 → getD (queueAt pairs waiting k) j 0 ≡ getD pairs (k * 16 + j) 0
 number-at pairs waiting k ok j h = getD-take (getD waiting k 0) (part (k * 16) 16 pairs) j 0 h ∙ part-get (k * 16) 16 pairs j 0 (omega (arith, ok .fits))
-
--- one more that is held back
-pub held-more : (back : ℕ → Bool) (i : ℕ) → ((j : ℕ) → j < i → back j ≡ true) → back i ≡ true → (j : ℕ) → j < i + 1 → back j ≡ true
-held-more back i f e j h = dite (ℕ-discrete j i) (λ (q : j ≡ i). rw q e) (λ (q : j ≡ i → ⊥). f j (omega arith))
 
 -- AS THE DEFINITIONS HAVE IT
 module _ (p : Program) (n : ℕ) (α : List Reply) where

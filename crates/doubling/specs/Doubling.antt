@@ -2,7 +2,7 @@
 -- numbers are named one after the other: whether one was named again, and the marks with theirs.
 use Prim.Native.Nat.{ℕ, suc, _+_, _<_}
 use mathlib.Core.Path.{_≡_, refl, ap, sym, _∙_}
-use mathlib.Core.Bool.{Bool, true, false, not, _&&_, _||_}
+use mathlib.Core.Bool.{Bool, true, false, not, _&&_, _||_, or-false, or-assoc, Bool·not-not}
 use mathlib.Core.List.{List, [], _∷_, _++_, append-assoc, append-nil}
 use mathlib.Core.Logic.{dite}
 use native.Mathlib.Decide.{ℕ-discrete}
@@ -12,7 +12,7 @@ use lib.Dec.{eqb}
 use lib.ListN.{length, getD, set, take, length-set}
 use lib.Seq.{take-suc, getD-set-same, getD-set-other}
 use Rattle.lists.specs.Lists.{any}
-use Rattle.lists.specs.Facts.{not-not, or-right, or-false, or-assoc}
+use Rattle.lists.specs.Facts.{or-right, any-append}
 use Rattle.programs.specs.Program.{Program}
 use Rattle.soundness.specs.Asked.{again}
 
@@ -22,11 +22,6 @@ or-swap : (a b c : Bool) → a || (b || c) ≡ b || (a || c)
 or-swap true true c = refl
 or-swap true false c = refl
 or-swap false b c = refl
-
--- some element of two lists
-any-append : {A : Type 0} (f : A → Bool) (l m : List A) → any f (l ++ m) ≡ any f l || any f m
-any-append f [] m = refl
-any-append f (x ∷ l) m = rw (any-append f l m) (sym (or-assoc (f x) (any f l) (any f m)))
 
 -- THE MARKS
 -- the marks are those of the numbers named
@@ -91,7 +86,7 @@ named-none seen = record { tells = λ p e s. refl; keeps = λ e s. rw (append-ni
 -- one
 pub named-one : (seen : List ℕ) (x : ℕ) {r : Bool} → x < 65536 → r ≡ not (eqb x 0) && not (eqb (getD seen x 0) 0) → Named seen (x ∷ []) r (set seen x 1)
 named-one seen x h q = record {
-  tells = λ p e s. q ∙ rw (s .mark x h, not-not (any (eqb x) e), or-false (not (eqb x 0) && any (eqb x) e));
+  tells = λ p e s. q ∙ rw (s .mark x h, Bool·not-not (any (eqb x) e), or-false (not (eqb x 0) && any (eqb x) e));
   keeps = λ e s. seen-more seen e x h s;
   marks = refl;
 }

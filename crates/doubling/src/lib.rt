@@ -8,10 +8,10 @@ ghost use Rattle.programs.specs.Trees.{operands};
 ghost use Rattle.programs.specs.Statements.{parts, exprsOf};
 ghost use Rattle.tables.specs.Decode.{pairsOf, stmtOf};
 ghost use Rattle.doubling.specs.Doubling.{Named};
-use faults::rows_from;
 use programs::Expr;
 use tables::Head;
 use tables::Program;
+use tables::rows_from;
 
 // A mark for each number of 16 bits.
 pub const NUMBERS: usize = 65536;

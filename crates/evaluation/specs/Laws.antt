@@ -1,22 +1,20 @@
 -- Laws of what `eval` gives, one for each form of an expression: from what it gives of the parts. Assumes nothing.
 use Prim.Native.Nat.{ℕ, _+_, _*_, _/_, _%_, _^_, _≤_, _<_}
 use mathlib.Core.Path.{_≡_, refl, sym, ap, _∙_}
-use mathlib.Core.Bool.{Bool, true, false, not, cond, _&&_, _||_}
 use mathlib.Core.List.{List}
 use native.Mathlib.Omega.{arith}
 use native.Mathlib.Nat.{div-one, div-le-self, zero-add, add-zero}
 use lib.Dec.{eqb}
-use lib.IntN.{ℤ, negℤ, _+ℤ_, _-ℤ_}
+use lib.IntN.{ℤ}
 use lib.ListN.{getD}
 use lib.Pow.{shr-shr}
 use Rattle.lists.specs.Down.{below, downward, below-is, below-other}
 use Rattle.values.specs.declared.Value.{Value}
-use Rattle.values.specs.declared.Value.the-variants.{Undefined as undefined, Bool as vbool, Int as vint, Event as vevent, Id as vid}
+use Rattle.values.specs.declared.Value.the-variants.{Bool as vbool}
 use Rattle.values.specs.declared.Unary.{Unary}
-use Rattle.values.specs.declared.Unary.the-variants.{Not as not′, Neg as neg}
 use Rattle.values.specs.declared.Binary.{Binary}
-use Rattle.values.specs.declared.Binary.the-variants.{Add as add, Sub as sub, And as and, Or as or}
-use Rattle.values.specs.Values.{inRange, checked, withInt, withBool, apply1, apply2}
+use Rattle.values.specs.Values.{checked, apply1, apply2}
+use Rattle.values.specs.Given.{checked-given, apply1-given, apply2-given}
 use Rattle.programs.specs.declared.Leaf.{Leaf}
 use Rattle.programs.specs.declared.Leaf.the-variants.{Bot as bot, Int as intVal, Bool as boolVal, Var as var, This as this, Msg as msg, Arg as arg, Star as star}
 use Rattle.programs.specs.declared.Expr.the-variants.{Leaf as leaf, Unary as unary, Binary as binary}
@@ -76,39 +74,15 @@ module _ (σ : Store) (w j : ℕ) where
 -- WHAT THE MACHINE CAN HOLD
 -- an int that is in range, or undefined
 checked-held : (z : ℤ) → Holdable (checked z)
-checked-held z = go (inRange z) refl
-  where
-    go : (t : Bool) → inRange z ≡ t → Holdable (cond t (vint z) undefined)
-    go true h = h
-    go false h = tt
-
--- of an int
-int-held : (x : Value) (k : ℤ → Value) → ((z : ℤ) → Holdable (k z)) → Holdable (withInt x k)
-int-held undefined k h = tt
-int-held (vbool b) k h = tt
-int-held (vint z) k h = h z
-int-held (vevent e) k h = tt
-int-held (vid i) k h = tt
-
--- of a bool
-bool-held : (x : Value) (k : Bool → Value) → ((b : Bool) → Holdable (k b)) → Holdable (withBool x k)
-bool-held undefined k h = tt
-bool-held (vbool b) k h = h b
-bool-held (vint z) k h = tt
-bool-held (vevent e) k h = tt
-bool-held (vid i) k h = tt
+checked-held = checked-given Holdable tt (λ b. tt) (λ z h. h)
 
 -- what an operator gives of one value
 apply1-held : (o : Unary) (x : Value) → Holdable (apply1 o x)
-apply1-held not′ x = bool-held x (λ a. vbool (not a)) (λ a. tt)
-apply1-held neg x = int-held x (λ a. checked (negℤ a)) (λ a. checked-held (negℤ a))
+apply1-held = apply1-given Holdable tt (λ b. tt) (λ z h. h)
 
 -- and of two
 apply2-held : (o : Binary) (x y : Value) → Holdable (apply2 o x y)
-apply2-held add x y = int-held x (λ a. withInt y (λ b. checked (a +ℤ b))) (λ a. int-held y (λ b. checked (a +ℤ b)) (λ b. checked-held (a +ℤ b)))
-apply2-held sub x y = int-held x (λ a. withInt y (λ b. checked (a -ℤ b))) (λ a. int-held y (λ b. checked (a -ℤ b)) (λ b. checked-held (a -ℤ b)))
-apply2-held and x y = bool-held x (λ a. withBool y (λ b. vbool (a && b))) (λ a. bool-held y (λ b. vbool (a && b)) (λ b. tt))
-apply2-held or x y = bool-held x (λ a. withBool y (λ b. vbool (a || b))) (λ a. bool-held y (λ b. vbool (a || b)) (λ b. tt))
+apply2-held = apply2-given Holdable tt (λ b. tt) (λ z h. h)
 
 module _ (places values : List ℕ) (at : ℕ) where
   -- the value of a tree in the store that the arrays hold

@@ -19,13 +19,14 @@ use Rattle.programs.specs.declared.Leaf.{Leaf}
 use Rattle.programs.specs.declared.Leaf.the-variants.{Bot as bot, Int as intVal, Bool as boolVal, Var as var, This as this, Msg as msg, Arg as arg, Star as star}
 use Rattle.programs.specs.declared.Expr.{Expr}
 use Rattle.programs.specs.declared.Expr.the-variants.{Leaf as leaf, Unary as unary, Binary as binary}
-use Rattle.programs.specs.Program.{Program, Stmt, skip, exprAt, stmtAt, variableAt}
+use Rattle.programs.specs.Program.{Program, Stmt, skip, exprAt, stmtAt}
 use Rattle.programs.specs.Trees.{Tree, tip, one, two, tree, stars, operands, exprInside}
 use Rattle.programs.specs.Statements.{exprsOf, serves, holds, servesFrom, exprServes}
 use Rattle.machines.specs.Config.{Local}
 use Rattle.machines.specs.Eval.{Store, storeOf, value, eval}
 use Rattle.soundness.specs.Asked.{refers, own, leafRefers, exprRefers, leafOwn, exprOwn}
 use Rattle.soundness.specs.Sound.{Sound}
+use Rattle.soundness.specs.Founded.{VariableOf}
 use Rattle.soundness.specs.Lines.{expr-meets}
 use Rattle.codes.specs.Codes.{codeOf}
 use Rattle.tables.specs.Decode as decode
@@ -80,10 +81,6 @@ module _ (P : ℕ → Type 0) (σ τ : Store) (a : Agree P σ τ) (w : ℕ) wher
   value-agrees k (two o s t) h = rw (value-agrees k s (h .0), value-agrees (k + stars s) t (h .1))
 
 module _ (p : Program) (k : ℕ) where
-  -- variable x is there and of kind k
-  abbrev pub Own : ℕ → Type 0
-  Own x = There (length (p .variables)) x × (variableAt p x .of ≡ k)
-
   -- THE EXPRESSIONS INSIDE ONE
   -- each is inside itself,
   inside-self : (n : ℕ) → exprInside p n n ≡ true
@@ -123,7 +120,7 @@ module _ (p : Program) (k : ℕ) where
 
   module _ (sound : Sound p) (here : There (p .machines) k) where
     -- ONE EXPRESSION that serves kind k names only its variables: a leaf,
-    leaf-own : (n : ℕ) (l : Leaf) → exprServes p k n ≡ true → leafRefers p l .Holds → leafOwn p n l .Holds → LeafNames Own l
+    leaf-own : (n : ℕ) (l : Leaf) → exprServes p k n ≡ true → leafRefers p l .Holds → leafOwn p n l .Holds → LeafNames (VariableOf p k) l
     leaf-own n bot v h o = tt
     leaf-own n (intVal z) v h o = tt
     leaf-own n (boolVal b) v h o = tt
@@ -134,50 +131,50 @@ module _ (p : Program) (k : ℕ) where
     leaf-own n star v h o = tt
 
     -- any expression,
-    expr-own : (n : ℕ) (x : Expr) → exprServes p k n ≡ true → exprRefers p x .Holds → exprOwn p n x .Holds → ExprNames Own x
+    expr-own : (n : ℕ) (x : Expr) → exprServes p k n ≡ true → exprRefers p x .Holds → exprOwn p n x .Holds → ExprNames (VariableOf p k) x
     expr-own n (leaf l) v h o = leaf-own n l v h o
     expr-own n (unary u a) v h o = tt
     expr-own n (binary u a b) v h o = tt
 
     -- of a number that is not there too.
-    line-own : (n : ℕ) → exprServes p k n ≡ true → ExprNames Own (exprAt p n)
-    line-own n v = at-any (ExprNames Own) (leaf bot) (p .exprs) n tt
+    line-own : (n : ℕ) → exprServes p k n ≡ true → ExprNames (VariableOf p k) (exprAt p n)
+    line-own n v = at-any (ExprNames (VariableOf p k)) (leaf bot) (p .exprs) n tt
         (λ t. expr-own n (exprAt p n) v (expr-meets p (refers p) (sound .all-refer) n t) (expr-meets p (own p) (sound .all-own) n t))
 
     -- ITS TREE: of a part, from the lower ones
-    part-own : (n a : ℕ) → ((m : ℕ) → m < n → Serving m → Names Own (tree p m)) → Serving n → has a (operands (exprAt p n)) → Names Own (partOf p n a)
+    part-own : (n a : ℕ) → ((m : ℕ) → m < n → Serving m → Names (VariableOf p k) (tree p m)) → Serving n → has a (operands (exprAt p n)) → Names (VariableOf p k) (partOf p n a)
     part-own n a ih s h = go (ltb a n) refl
       where
-        go : (b : Bool) → ltb a n ≡ b → Names Own (partOf p n a)
+        go : (b : Bool) → ltb a n ≡ b → Names (VariableOf p k) (partOf p n a)
         go true b = let l = ltb-true a n b in rw (part-lower p n a l) (ih a l (λ x i. s x (inside-part n a x l h i)))
         go false b = rw (part-other p n a (ltb-false a n b)) tt
 
     -- of the whole, by its form
-    step-own : (n : ℕ) → ((m : ℕ) → m < n → Serving m → Names Own (tree p m)) → Serving n → Names Own (tree p n)
+    step-own : (n : ℕ) → ((m : ℕ) → m < n → Serving m → Names (VariableOf p k) (tree p m)) → Serving n → Names (VariableOf p k) (tree p n)
     step-own n ih s = go (exprAt p n) refl
       where
-        go : (x : Expr) → exprAt p n ≡ x → Names Own (tree p n)
+        go : (x : Expr) → exprAt p n ≡ x → Names (VariableOf p k) (tree p n)
         go (leaf l) e = rw (tree-leaf p n l e) (rw e at (line-own n (s n (inside-self n))))
         go (unary o a) e = rw (tree-one p n o a e) (part-own n a ih s (rw (e, eqb-same a)))
         go (binary o a b) e = rw (tree-two p n o a b e) (part-own n a ih s (rw (e, eqb-same a)), part-own n b ih s (rw e (or-right (eqb b a) _ (rw (eqb-same b)))))
 
     -- of every expression below m
-    below-own : (m n : ℕ) → n < m → Serving n → Names Own (tree p n)
+    below-own : (m n : ℕ) → n < m → Serving n → Names (VariableOf p k) (tree p n)
     below-own zero n h = absurd (omega arith)
     below-own (suc m) n h = step-own n (λ a l. below-own m a (omega arith))
 
     -- THE EXPRESSIONS OF A STATEMENT that serves kind k name only variables of kind k
-    held-own : (s e : ℕ) → serves p k s ≡ true → has e (exprsOf (stmtAt p s)) → Names Own (tree p e)
+    held-own : (s e : ℕ) → serves p k s ≡ true → has e (exprsOf (stmtAt p s)) → Names (VariableOf p k) (tree p e)
     held-own s e v h = below-own (suc e) e (omega arith) (statement-serves s e v h)
 
   -- and a kind that a statement serves is there
-  pub own-tree : Sound p → (s e : ℕ) → serves p k s ≡ true → has e (exprsOf (stmtAt p s)) → Names Own (tree p e)
+  pub own-tree : Sound p → (s e : ℕ) → serves p k s ≡ true → has e (exprsOf (stmtAt p s)) → Names (VariableOf p k) (tree p e)
   own-tree sound s e v = held-own sound (served-there p sound k s v) s e v
 
 -- THE JOIN: of an expression whose variables the arrays hold as the machine has them, `eval` gives the value of the definition. Its first star is number
 -- j of the statement's where the j lowest of the choice's bits w are taken.
 pub evaluated-is : (p : Program) (exprs places values : List ℕ) (at i : ℕ) (l : Local) (k e w j : ℕ) {u : ℕ} → decode.exprsOf exprs ≡ p .exprs
-    → Agree (Own p k) (storeIn places values at) (storeOf p i l) → Names (Own p k) (tree p e) → u ≡ w / 2 ^ j
+    → Agree (VariableOf p k) (storeIn places values at) (storeOf p i l) → Names (VariableOf p k) (tree p e) → u ≡ w / 2 ^ j
     → evaluated exprs places values at e u ≡ codeOf (eval p i l w j e) + (w / 2 ^ (j + stars (tree p e))) * REST
 unfolding packed
 evaluated-is p exprs places values at i l k e w j q a h d =
@@ -185,7 +182,7 @@ evaluated-is p exprs places values at i l k e w j q a h d =
       q,
       ← tree-exprs p e,
       d,
-      value-agrees (Own p k) (storeIn places values at) (storeOf p i l) a (w / 2 ^ j) 0 (tree p e) h,
+      value-agrees (VariableOf p k) (storeIn places values at) (storeOf p i l) a (w / 2 ^ j) 0 (tree p e) h,
       value-shift (storeOf p i l) w j 0 (tree p e),
       add-zero j,
       shr-shr w j (stars (tree p e)),

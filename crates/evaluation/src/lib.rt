@@ -12,6 +12,7 @@ ghost use Rattle.evaluation.specs.Evaluated.{REST, storeIn, packed, eval
 use programs::Expr;
 use programs::Leaf;
 use tables::Program;
+use tables::index;
 use values::Binary;
 use values::Unary;
 use values::Value;
@@ -36,20 +37,13 @@ fn pack(x: u64, rest: u64) -> u64
     x + rest * REST
 }
 
-// A byte as a place.
-fn wide(x: u8) -> usize
-    ensures { λ r. ⌜ r ≡ x ⌝ }
-{
-    x as usize
-}
-
 // The place of variable x among its machine's.
 fn place(places: &[u8; Program::ALL_VARIABLES + 1], x: u16) -> usize
     requires { ⌜ (length (now places) ≡ 257) × All (λ n. n < 16) (now places) ⌝ }
     ensures { λ r. ⌜ (r ≡ getD (now (places .entry)) x 0) × (r < 16) ⌝ }
 {
     if x as usize <= Program::ALL_VARIABLES {
-        wide(places[x as usize])
+        index(places[x as usize])
     } else {
         0
     }

@@ -2,7 +2,7 @@
 -- marked first, and then the marks are passed on to their operands.
 use Prim.Native.Nat.{ℕ, zero, suc, _+_, _-_, _*_, _≤_, _<_, min}
 use mathlib.Core.Path.{_≡_, refl, ap, sym, _∙_}
-use mathlib.Core.Bool.{Bool, true, false, cond, _&&_, _||_}
+use mathlib.Core.Bool.{Bool, true, false, cond, _&&_, _||_, and-comm, or-false}
 use mathlib.Core.List.{List, [], _∷_, map}
 use mathlib.Core.Logic.{inl, inr, ⊎-elim, dite}
 use native.Mathlib.Decide.{ℕ-discrete}
@@ -11,7 +11,7 @@ use native.Mathlib.Omega.{arith}
 use borrow.Author.Tests.{ne-eqb}
 use lib.ListN.{length, getD, set, length-set}
 use Rattle.lists.specs.Lists.{at, any}
-use Rattle.lists.specs.Facts.{or-false}
+use Rattle.lists.specs.Facts.{any-ext}
 use Rattle.rows.specs.Part.{Off}
 use Rattle.rows.specs.Seek.{table}
 use Rattle.programs.specs.declared.Leaf.the-variants.{Bot as bot}
@@ -22,6 +22,7 @@ use Rattle.programs.specs.Trees.{operands, exprInside}
 use Rattle.programs.specs.Statements.{exprsOf, serves, holds, servesFrom, exprServes}
 use Rattle.tables.specs.declared.Head.{Head}
 use Rattle.tables.specs.Decode.{count, exprsOf as expressions, headAt, pairIn, pairsOf, stmtOf, stmtsOf, PAIRS}
+use Rattle.tables.specs.Numbered.{table-all}
 use Rattle.tables.specs.Tables.{exprs-length, stmts-length, stmt-head}
 use Rattle.marks.specs.Sheet.{Marking, says-at, Sheet, sheet-none, sheet-more, marking}
 use Rattle.marks.specs.Marks.{Served}
@@ -54,14 +55,6 @@ rowOf exprs stmts inits served x n k l = flowed (operandsIn exprs) (k * 1025) x 
 unfoldable pub rowsOf : List ℕ → List ℕ → List ℕ → List ℕ → ℕ → ℕ → ℕ → List ℕ → List ℕ
 rowsOf exprs stmts inits served x n zero l = l
 rowsOf exprs stmts inits served x n (suc k) l = rowOf exprs stmts inits served x n (suc k) (rowsOf exprs stmts inits served x n k l)
-
--- BOOLS
--- both, in either order
-and-swap : (a b : Bool) → a && b ≡ b && a
-and-swap true true = refl
-and-swap true false = refl
-and-swap false true = refl
-and-swap false false = refl
 
 -- A ROW'S FIRST MARKS
 module _ (stmts inits served : List ℕ) (x b : ℕ) where
@@ -148,10 +141,8 @@ module _ (exprs stmts inits served : List ℕ) (x n : ℕ) (fits : x ≤ 1024) w
 
 -- WHAT IS MEANT
 -- tests of numbers that agree
-any-ext : (f g : ℕ → Bool) (i n : ℕ) → ((s : ℕ) → i ≤ s → s < i + n → f s ≡ g s) → any f (table (λ s. s) i n) ≡ any g (table (λ s. s) i n)
-unfolding table
-any-ext f g i zero h = refl
-any-ext f g i (suc n) h = rw (h i (omega arith) (omega arith), any-ext f g (i + 1) n (λ s a b. h s (omega arith) (omega arith)))
+any-agree : (f g : ℕ → Bool) (i n : ℕ) → ((s : ℕ) → i ≤ s → s < i + n → f s ≡ g s) → any f (table (λ s. s) i n) ≡ any g (table (λ s. s) i n)
+any-agree f g i n h = any-ext f g (table (λ s. s) i n) (table-all (λ s. f s ≡ g s) (λ s. s) i n h)
 
 module _ (p : Program) (k e : ℕ) where
   -- of the statements from number i on
@@ -161,7 +152,7 @@ module _ (p : Program) (k e : ℕ) where
   from-any (t ∷ l) i =
       let z : i - i ≡ 0 = omega arith in
       rw (z, from-any l (suc i), add-one i) (ap (λ r. (holds p e t && serves p k i) || r)
-      (any-ext (λ s. holds p e (getD l (s - suc i) skip) && serves p k s) (λ s. holds p e (getD (t ∷ l) (s - i) skip) && serves p k s) (suc i) (length l) same))
+      (any-agree (λ s. holds p e (getD l (s - suc i) skip) && serves p k s) (λ s. holds p e (getD (t ∷ l) (s - i) skip) && serves p k s) (suc i) (length l) same))
     where
       same : (s : ℕ) → suc i ≤ s → s < suc i + length l → holds p e (getD l (s - suc i) skip) && serves p k s ≡ holds p e (getD (t ∷ l) (s - i) skip) && serves p k s
       same s a b = let q : s - i ≡ suc (s - suc i) = omega arith in rw q
@@ -169,7 +160,7 @@ module _ (p : Program) (k e : ℕ) where
   -- an expression that is in a statement that serves kind k
   serves-any : exprServes p k e ≡ any (λ s. holds p e (stmtAt p s) && serves p k s) (table (λ s. s) 1 (length (p .stmts)))
   unfolding exprServes
-  serves-any = from-any (p .stmts) 1 ∙ any-ext (λ s. holds p e (getD (p .stmts) (s - 1) skip) && serves p k s) (λ s. holds p e (stmtAt p s) && serves p k s) 1 (length (p .stmts)) same
+  serves-any = from-any (p .stmts) 1 ∙ any-agree (λ s. holds p e (getD (p .stmts) (s - 1) skip) && serves p k s) (λ s. holds p e (stmtAt p s) && serves p k s) 1 (length (p .stmts)) same
     where
       same : (s : ℕ) → 1 ≤ s → s < 1 + length (p .stmts) → holds p e (getD (p .stmts) (s - 1) skip) && serves p k s ≡ holds p e (stmtAt p s) && serves p k s
       same zero a b = absurd (omega arith)
@@ -187,14 +178,14 @@ module _ (exprs stmts inits served : List ℕ) (p : Program) (same-exprs : p .ex
       → on served (k * 1025) s && any (reach (operandsIn exprs) e) (named stmts inits s) ≡ holds p e (stmtAt p s) && serves p k s
   stmt-says k e s a b c d =
       let t : at skip (p .stmts) s ≡ stmtOf inits (headAt stmts s) = ap (λ l. at skip l s) same-stmts ∙ stmt-head stmts inits s in
-      rw (says-at h k s a b (omega arith) (omega (arith, ap length same-stmts, stmts-length stmts inits)), t, any-inside e (named stmts inits s)) (and-swap (serves p k s) (any (exprInside p e) (named stmts inits s)))
+      rw (says-at h k s a b (omega arith) (omega (arith, ap length same-stmts, stmts-length stmts inits)), t, any-inside e (named stmts inits s)) (and-comm (serves p k s) (any (exprInside p e) (named stmts inits s)))
 
   -- the mark of expression e in kind k's row
   marks-at : (zeros : List ℕ) → length zeros ≡ 17425 → ((i : ℕ) → getD zeros i 0 ≡ 0) → (k e : ℕ) → 1 ≤ k → k ≤ 16 → e ≤ count EXPRS exprs
       → on (rowsOf exprs stmts inits served (count EXPRS exprs) (count STMTS stmts) 16 zeros) (k * 1025) e ≡ exprServes p k e
   marks-at zeros size nothing k e a b c =
       rows-on exprs stmts inits served (count EXPRS exprs) (count STMTS stmts) (omega arith) e k (operands-past exprs) c a 16 zeros b (omega arith) size nothing
-      ∙ any-ext (λ s. on served (k * 1025) s && any (reach (operandsIn exprs) e) (named stmts inits s)) (λ s. holds p e (stmtAt p s) && serves p k s) 1 (count STMTS stmts) (λ s i j. stmt-says k e s a b i j)
+      ∙ any-agree (λ s. on served (k * 1025) s && any (reach (operandsIn exprs) e) (named stmts inits s)) (λ s. holds p e (stmtAt p s) && serves p k s) 1 (count STMTS stmts) (λ s i j. stmt-says k e s a b i j)
       ∙ sym (serves-any p k e ∙ ap (λ n. any (λ s. holds p e (stmtAt p s) && serves p k s) (table (λ s. s) 1 n)) (ap length same-stmts ∙ stmts-length stmts inits))
 
   -- all of it
@@ -207,21 +198,6 @@ module _ (exprs stmts inits served : List ℕ) (p : Program) (same-exprs : p .ex
           (sheet-none (count EXPRS exprs) zeros size nothing)
 
 -- FOR THE CODE
--- the statement names none,
-pub names-none : (b n : ℕ) (es l : List ℕ) → es ≡ [] → l ≡ markAll b n es l
-unfolding markAll
-names-none b n es l e = rw e
-
--- one,
-pub names-one : (b n : ℕ) (es l m : List ℕ) (t : ℕ) → es ≡ t ∷ [] → m ≡ markLow b n t l → m ≡ markAll b n es l
-unfolding markAll
-names-one b n es l m t e h = rw e h
-
--- or two
-pub names-two : (b n : ℕ) (es l m o : List ℕ) (t u : ℕ) → es ≡ t ∷ u ∷ [] → m ≡ markLow b n t l → o ≡ markLow b n u m → o ≡ markAll b n es l
-unfolding markAll
-names-two b n es l m o t u e h k = rw (e, ← h) k
-
 -- a statement that is told
 pub names-told : (b n : ℕ) (inits : List ℕ) (h g : Head) (l m : List ℕ) → h ≡ g → m ≡ markAll b n (exprsOf (stmtOf inits g)) l → m ≡ markAll b n (exprsOf (stmtOf inits h)) l
 names-told b n inits h g l m e k = rw e k

@@ -12,6 +12,7 @@ ghost use Rattle.marks.specs.Flow.{markAll, passed, flowed};
 ghost use Rattle.expr_marks.specs.Naming.{ExprServed, rootOf, rooted};
 use tables::Head;
 use tables::Program;
+use tables::rows_from;
 
 // Marks the expressions of an init list that are lower than n. Costs one turn for each pair.
 fn mark_pairs(
@@ -26,7 +27,7 @@ fn mark_pairs(
     ensures { λ _. ⌜ now (marks .exit) ≡ markAll b n (map (λ xe. xe .1) (pairsOf (now (inits .entry)) i c)) (now (marks .entry)) ⌝ }
 {
     let a = i as usize;
-    let m = marks::pairs_from(a, c as usize);
+    let m = rows_from(Program::PAIRS, a, c as usize);
     let mut j = 0;
     while j < m {
         let e = inits[(a + j) * 2 + 1];

@@ -1,17 +1,13 @@
 -- A check of every element of a list, tested in a loop: it is passed where every place passes, and not where one does not.
 use Prim.Native.Nat.{ℕ, zero, suc, _+_, _<_}
 use mathlib.Core.Path.{_≡_, refl}
-use mathlib.Core.Bool.{Bool, true, false, _&&_}
+use mathlib.Core.Bool.{Bool, true, false}
 use mathlib.Core.List.{List, [], _∷_}
 use native.Mathlib.Omega.{arith}
 use borrow.Author.Count.{below-more}
 use lib.ListN.{length, getD}
-use Rattle.lists.specs.Facts.{and-false}
+use Rattle.lists.specs.Facts.{and-fails}
 use Rattle.lists.specs.Check.{Check, each}
-
--- a test that fails beside another
-pub and-fails : (a b : Bool) → b ≡ false → a && b ≡ false
-and-fails a b h = rw h (and-false a)
 
 -- a check that does not hold does not pass its test
 pub fails : (c : Check) → (c .Holds → ⊥) → c .test ≡ false

@@ -2,13 +2,12 @@
 -- nothing but its length. Nothing here is of the document.
 use Prim.Native.Nat.{ℕ, suc, _+_, _-_, _≤_, _<_}
 use mathlib.Core.Path.{_≡_, refl, sym, _∙_}
-use mathlib.Core.Logic.{dite}
 use mathlib.Core.Bool.{Bool, true, false, not}
 use mathlib.Core.List.{List, [], _∷_}
-use native.Mathlib.Decide.{ℕ-discrete}
 use native.Mathlib.Omega.{arith}
 use borrow.Author.Tests.{not-true, not-false}
 use lib.ListN.{length, getD, replicate, length-replicate}
+use Rattle.lists.specs.Facts.{range-more}
 use Rattle.lists.specs.Lists.{at, There}
 use Rattle.lists.specs.Check.{Check, isTrue}
 use Rattle.soundness.specs.Sound.{numbered, firstFault}
@@ -47,7 +46,7 @@ module _ {good : ℕ → Bool} {n i : ℕ} (s : Seeking good n i) where
   seek-more h g = record {
     low = omega arith;
     high = omega arith;
-    clear = λ j a b. dite (ℕ-discrete j i) (λ q. rw q g) (λ q. s .clear j a (omega arith));
+    clear = range-more (λ j. good j ≡ true) 1 i (s .clear) g;
   }
 
   -- one that does not

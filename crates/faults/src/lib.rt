@@ -1,9 +1,9 @@
 // The first faulty line of a program, from the first faulty row of each of its tables: what the passes that decide soundness share. What is meant by a
 // fault, and the laws, stand in specs/Faults.antt; the program that lent arrays read as in specs/Read.antt.
 ghost use mathlib.Core.Path.{_≡_};
-ghost use Prim.Native.Nat.{_+_, _-_, _*_, _≤_, min};
+ghost use Prim.Native.Nat.{_+_, _-_, _*_, _≤_};
 ghost use Rattle.programs.specs.Sizes.{KINDS, EVENTS, VARIABLES};
-ghost use Rattle.tables.specs.Decode.{MOVES, count};
+ghost use Rattle.tables.specs.Decode.{count};
 ghost use Rattle.faults.specs.Faults.{onward, joined};
 ghost use Rattle.faults.specs.Read.{Counting};
 use tables::Program;
@@ -57,30 +57,6 @@ pub fn front(
     ensures { λ r. ⌜ (r ≡ count EVENTS (now («event_types» .entry)) + kinds + count (KINDS * VARIABLES) (now («variable_of» .entry))) × (r ≤ 1000) ⌝ }
 {
     event_count(event_types) + kinds as usize + variable_count(variable_of)
-}
-
-// How many rows there are of n from row a on, from 0: no more than a table of the size given has.
-pub fn rows_from(size: usize, a: usize, n: usize) -> usize
-    ensures { λ r. ⌜ r ≡ min n (size - a) ⌝ }
-{
-    if size <= a {
-        return 0;
-    }
-    if n <= size - a { n } else { size - a }
-}
-
-// The row behind a moves and b more: no further than the table's end.
-pub fn row_after(a: usize, b: usize) -> usize
-    ensures { λ r. ⌜ r ≡ min (a + b) MOVES ⌝ }
-{
-    if Program::MOVES <= a {
-        return Program::MOVES;
-    }
-    if b <= Program::MOVES - a {
-        a + b
-    } else {
-        Program::MOVES
-    }
 }
 
 // The line of a fault that has n lines before it; 0 where b is none.

@@ -7,11 +7,11 @@ use native.Mathlib.Omega.{arith}
 use lib.ListN.{length, getD, replicate, getD-replicate}
 use Rattle.lists.specs.Tells.{Tells, form}
 use Rattle.rows.specs.Part.{part, part-length, part-get}
+use Rattle.rows.specs.Pad.{zeros-replicate}
 use Rattle.programs.specs.Sizes.{LIVE, STACK, EVENTS, VARIABLES, ROW, QUEUE}
 use Rattle.configs.specs.Encode.{free}
 use Rattle.configs.specs.Flat.{flat, roomAt, room-path}
 use Rattle.zeros.specs.Zeros.{Zeros}
-use Rattle.zeros.specs.Packed.{zeros-replicate}
 
 -- WHAT IS ASKED: a room of flat lists
 pub record Asked (states maps values parts pairs : List ℕ) (i : ℕ) : Type 0 where
@@ -43,7 +43,7 @@ pub record RowsZero (states maps values parts pairs : List ℕ) (i : ℕ) : Type
 module _ (b w : ℕ) (xs : List ℕ) (inside : b + w ≤ length xs) where
   -- zeros in all of its places,
   row-zero : Zeros b (b + w) xs → part b w xs ≡ replicate w 0
-  row-zero z = zeros-replicate w (part b w xs) (part-length b w xs inside) (λ k h. part-get b w xs k 0 h ∙ z (b + k) (omega arith) (omega arith))
+  row-zero z = zeros-replicate 0 w (part b w xs) (part-length b w xs inside) (λ k h. part-get b w xs k 0 h ∙ z (b + k) (omega arith) (omega arith))
 
   -- and the other way round
   zero-row : part b w xs ≡ replicate w 0 → Zeros b (b + w) xs

@@ -39,10 +39,6 @@ callLines (tables es ms vs xs ss acs ns ts cs ds ks hs) = reverse cs
 abbrev pub actLines : Tables → List Move
 actLines (tables es ms vs xs ss acs ns ts cs ds ks hs) = reverse ds
 
--- the kinds that `start` names: one at most
-abbrev pub startLines : Tables → List ℕ
-startLines (tables es ms vs xs ss acs ns ts cs ds ks hs) = ks
-
 abbrev pub choiceLines : Tables → List Choice
 choiceLines (tables es ms vs xs ss acs ns ts cs ds ks hs) = reverse hs
 

@@ -1,4 +1,5 @@
 -- What regroup answers and writes of what is handed in, occasion by occasion: 20, 3, 21, 22 in that order; on 0 the regrouped list.
+use borrow.Author.Tests.{not-true}
 use Prim.Native.Nat.{ℕ, suc, _-_, _≤_, _<_}
 use mathlib.Core.Path.{_≡_, refl, ap, sym, _∙_, subst}
 use mathlib.Core.Bool.{Bool, true, false, not}
@@ -6,7 +7,6 @@ use mathlib.Core.List.{List, [], _∷_, map}
 use native.Mathlib.Omega.{arith}
 use lib.ListN.{length, take, length-map}
 use lib.Seq.{length-take-le}
-use Rattle.lists.specs.Facts.{not-true}
 use Rattle.lists.specs.Tells.{Tells, refuted, denied, agree}
 use Rattle.lists.specs.Ends.{butLast, take-init, map-init}
 use Rattle.answers.specs.declared.Answer.{Answer}

@@ -1,11 +1,10 @@
 -- The test that decides whether two configurations of the code are the same, and so whether unused places are zero.
-use Prim.Native.Nat.{ℕ}
-use mathlib.Core.Path.{_≡_, refl, sym, subst}
-use mathlib.Core.Bool.{Bool, true, false, _&&_, true≢false}
-use mathlib.Core.List.{List, [], _∷_}
+use mathlib.Core.Path.{_≡_, sym, subst}
+use mathlib.Core.Bool.{Bool, true, _&&_}
 use lib.Dec.{eqb}
 use borrow.Author.Tests.{eqb-true}
-use Rattle.lists.specs.Facts.{eqb-same, and-parts, and-both}
+use Rattle.lists.specs.Lists.{alike, same}
+use Rattle.lists.specs.Facts.{eqb-same, and-parts, and-both, alike-equal, alike-self, same-equal, same-self}
 use Rattle.lists.specs.Tells.{Tells}
 use Rattle.programs.specs.Program.{Program}
 use Rattle.configs.specs.declared.Room.{Room}
@@ -14,39 +13,10 @@ use Rattle.configs.specs.Decode.{configOf}
 use Rattle.configs.specs.Encode.{written, Zeroed}
 use Rattle.configs.specs.Flat.{room-path}
 
--- two lists, element by element
-abbrev pub alike : {A : Type 0} → (A → A → Bool) → List A → List A → Bool
-alike f [] [] = true
-alike f [] (y ∷ ys) = false
-alike f (x ∷ xs) [] = false
-alike f (x ∷ xs) (y ∷ ys) = f x y && alike f xs ys
-
--- where the test of an element holds of equal ones only, so does the lists'
-alike-equal : {A : Type 0} (f : A → A → Bool) → ((x y : A) → f x y ≡ true → x ≡ y) → (xs ys : List A) → alike f xs ys ≡ true → xs ≡ ys
-alike-equal f h [] [] e = refl
-alike-equal f h [] (y ∷ ys) e = absurd (true≢false (sym e))
-alike-equal f h (x ∷ xs) [] e = absurd (true≢false (sym e))
-alike-equal f h (x ∷ xs) (y ∷ ys) e = let d = and-parts (f x y) (alike f xs ys) e in rw (h x y (d .0), alike-equal f h xs ys (d .1))
-
--- and where it holds of the same, so does the lists'
-alike-same : {A : Type 0} (f : A → A → Bool) → ((x : A) → f x x ≡ true) → (xs : List A) → alike f xs xs ≡ true
-alike-same f h [] = refl
-alike-same f h (x ∷ xs) = and-both (f x x) (alike f xs xs) (h x) (alike-same f h xs)
-
--- two rows of numbers
-abbrev pub sameRow : List ℕ → List ℕ → Bool
-sameRow xs ys = alike eqb xs ys
-
-row-equal : (xs ys : List ℕ) → sameRow xs ys ≡ true → xs ≡ ys
-row-equal = alike-equal eqb eqb-true
-
-row-same : (xs : List ℕ) → sameRow xs xs ≡ true
-row-same = alike-same eqb eqb-same
-
 -- two rooms: every number and every row
 abbrev pub sameRoom : Room → Room → Bool
-sameRoom a b = eqb (a .this .0) (b .this .0) && (eqb (a .kind .0) (b .kind .0) && (eqb (a .depth) (b .depth) && (sameRow (a .states) (b .states) && (sameRow (a .maps) (b .maps)
-    && (sameRow (a .values) (b .values) && (eqb (a .count) (b .count) && (sameRow (a .parts) (b .parts) && (eqb (a .held) (b .held) && (eqb (a .waiting) (b .waiting) && sameRow (a .pairs) (b .pairs))))))))))
+sameRoom a b = eqb (a .this .0) (b .this .0) && (eqb (a .kind .0) (b .kind .0) && (eqb (a .depth) (b .depth) && (same (a .states) (b .states) && (same (a .maps) (b .maps)
+    && (same (a .values) (b .values) && (eqb (a .count) (b .count) && (same (a .parts) (b .parts) && (eqb (a .held) (b .held) && (eqb (a .waiting) (b .waiting) && same (a .pairs) (b .pairs))))))))))
 
 room-equal : (a b : Room) → sameRoom a b ≡ true → a ≡ b
 room-equal a b e =
@@ -60,12 +30,12 @@ room-equal a b e =
     let n8 = and-parts _ _ (n7 .1) in
     let n9 = and-parts _ _ (n8 .1) in
     let n10 = and-parts _ _ (n9 .1) in
-    room-path (eqb-true _ _ (n1 .0)) (eqb-true _ _ (n2 .0)) (eqb-true _ _ (n3 .0)) (row-equal _ _ (n4 .0)) (row-equal _ _ (n5 .0)) (row-equal _ _ (n6 .0)) (eqb-true _ _ (n7 .0))
-    (row-equal _ _ (n8 .0)) (eqb-true _ _ (n9 .0)) (eqb-true _ _ (n10 .0)) (row-equal _ _ (n10 .1))
+    room-path (eqb-true _ _ (n1 .0)) (eqb-true _ _ (n2 .0)) (eqb-true _ _ (n3 .0)) (same-equal _ _ (n4 .0)) (same-equal _ _ (n5 .0)) (same-equal _ _ (n6 .0)) (eqb-true _ _ (n7 .0))
+    (same-equal _ _ (n8 .0)) (eqb-true _ _ (n9 .0)) (eqb-true _ _ (n10 .0)) (same-equal _ _ (n10 .1))
 
 room-same : (a : Room) → sameRoom a a ≡ true
-room-same a = and-both _ _ (eqb-same (a .this .0)) (and-both _ _ (eqb-same (a .kind .0)) (and-both _ _ (eqb-same (a .depth)) (and-both _ _ (row-same (a .states)) (and-both _ _ (row-same (a .maps))
-    (and-both _ _ (row-same (a .values)) (and-both _ _ (eqb-same (a .count)) (and-both _ _ (row-same (a .parts)) (and-both _ _ (eqb-same (a .held)) (and-both _ _ (eqb-same (a .waiting)) (row-same (a .pairs)))))))))))
+room-same a = and-both _ _ (eqb-same (a .this .0)) (and-both _ _ (eqb-same (a .kind .0)) (and-both _ _ (eqb-same (a .depth)) (and-both _ _ (same-self (a .states)) (and-both _ _ (same-self (a .maps))
+    (and-both _ _ (same-self (a .values)) (and-both _ _ (eqb-same (a .count)) (and-both _ _ (same-self (a .parts)) (and-both _ _ (eqb-same (a .held)) (and-both _ _ (eqb-same (a .waiting)) (same-self (a .pairs)))))))))))
 
 -- two configurations
 abbrev pub sameConfig : Held → Held → Bool
@@ -80,7 +50,7 @@ pub zeroed-is : (p : Program) (c : Held) → Tells (zeroed p c) (Zeroed p c)
 unfolding zeroed
 zeroed-is p c = record {
   holds = λ e. equal (written (configOf p c)) c e;
-  test = λ h. subst (λ (d : Held). sameConfig d c ≡ true) (sym h) (same c);
+  test = λ h. subst (λ (d : Held). sameConfig d c ≡ true) (sym h) (itself c);
 }
   where
     equal : (a b : Held) → sameConfig a b ≡ true → a ≡ b
@@ -89,5 +59,5 @@ zeroed-is p c = record {
         let r : a .rooms ≡ b .rooms = alike-equal sameRoom room-equal (a .rooms) (b .rooms) (d .1) in
         λ i. record { next = n i; rooms = r i }
 
-    same : (a : Held) → sameConfig a a ≡ true
-    same a = and-both _ _ (eqb-same (a .next)) (alike-same sameRoom room-same (a .rooms))
+    itself : (a : Held) → sameConfig a a ≡ true
+    itself a = and-both _ _ (eqb-same (a .next)) (alike-self sameRoom room-same (a .rooms))

@@ -3,18 +3,11 @@ use engine::Outcome;
 use rules::Rule;
 use tables::Head;
 use tables::Program;
-ghost use mathlib.Core.Path.{_≡_};
+use tables::wide;
 ghost use Rattle.configs.specs.Flat.{flat};
 ghost use Rattle.engine.specs.Engine.{Performed};
 ghost use Rattle.heads.specs.Asked.{HeadAsked};
 ghost use Rattle.heads.specs.Heads.{headOutcome};
-
-// A statement's number, as an index.
-fn wide(x: u16) -> usize
-    ensures { λ r. ⌜ r ≡ x ⌝ }
-{
-    x as usize
-}
 
 // THE HEAD of the machine in room k, under the bits w.
 pub fn head_on<'a>(

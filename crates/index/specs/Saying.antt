@@ -1,5 +1,5 @@
 -- Laws of `says`: moves stored from the last to the first, so that the first of a state and event is what stays.
-use Prim.Native.Nat.{ℕ, suc, _+_, _-_, _*_, _≤_, _<_, min}
+use Prim.Native.Nat.{ℕ, suc, _+_, _-_, _≤_, _<_, min}
 use mathlib.Core.Path.{_≡_, refl, ap, _∙_}
 use mathlib.Core.Bool.{cond}
 use mathlib.Core.List.{List, [], _∷_}
@@ -12,6 +12,7 @@ use lib.ListN.{length, getD, set, length-set}
 use lib.Seq.{getD-set-same, getD-set-other}
 use Rattle.lists.specs.Lists.{onOpt}
 use Rattle.rows.specs.Pad.{below?}
+use Rattle.rows.specs.Part.{one-row}
 use Rattle.rows.specs.Seek.{table}
 use Rattle.programs.specs.Sizes.{EVENTS, STATES}
 use Rattle.programs.specs.Program.{Move, moved}
@@ -76,13 +77,6 @@ module _ (i j n e : ℕ) (hi : i < 3) (hj : j < 3) (other : i ≡ j → ⊥) whe
   all-other [] says = refl
   all-other (t ∷ l) says = one-other t (storedAll j l says) ∙ all-other l says
 
--- a place has one state
-same-row : (a b x y : ℕ) → x ≤ 64 → y ≤ 64 → a * 65 + x ≡ b * 65 + y → a ≡ b
-same-row a b x y h k e =
-    let p : a ≤ b = omega arith in
-    let q : b ≤ a = omega arith in
-    omega arith
-
 -- ITS OWN PLACES have the first move of their state and event, or else what was there
 module _ (j n e : ℕ) (hj : j < 3) (hn : n ≤ 64) (he : e ≤ 64) where
   -- after a move of this state and event
@@ -93,7 +87,7 @@ module _ (j n e : ℕ) (hj : j < 3) (hn : n ≤ 64) (he : e ≤ 64) where
   -- after a move of another
   one-off : (t : Move) (says : List ℕ) → (t .from ≡ n → t .on ≡ e → ⊥) → getD (stored j t says) (saidAt n e + j) 0 ≡ getD says (saidAt n e + j) 0
   one-off t says apart = by-place j t says (λ l. getD l (saidAt n e + j) 0 ≡ getD says (saidAt n e + j) 0)
-      (λ h k. getD-set-other says (saidAt (t .from) (t .on) + j) (saidAt n e + j) (t .to) 0 (λ q. let r = same-row (t .from) n (t .on) e k he (omega arith) in apart r (omega arith))) refl
+      (λ h k. getD-set-other says (saidAt (t .from) (t .on) + j) (saidAt n e + j) (t .to) 0 (λ q. let r = one-row 65 (t .from) n (t .on) e (omega arith) (omega arith) (omega arith) in apart r (omega arith))) refl
 
   -- after all
   pub all-own : (l : List Move) (says : List ℕ) → length says ≡ 12675

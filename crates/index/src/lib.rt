@@ -2,10 +2,12 @@
 // variable among its kind's. What the tables hold stands in specs/Index.antt.
 use tables::Program;
 use tables::byte;
+use tables::row_after;
+use tables::rows_from;
 use tables::variable_count;
 ghost use mathlib.Core.Path.{_≡_};
 ghost use mathlib.Core.List.{List};
-ghost use Prim.Native.Nat.{ℕ, _+_, _-_, _<_, min};
+ghost use Prim.Native.Nat.{ℕ, _+_, _-_, _<_};
 ghost use Rattle.tables.specs.Decode.{MOVES, movesOf, variablesOf};
 ghost use Rattle.index.specs.Index.{Said, Placed};
 ghost use Rattle.index.specs.Saying.{stored, storedAll};
@@ -35,34 +37,6 @@ fn store_move(
     says[(n * (Program::EVENTS + 1) + e) * 3 + j] = to;
 }
 
-// How many moves there are of n from row a on: no more than the table has.
-fn moves_from(a: usize, n: usize) -> usize
-    ensures { λ r. ⌜ r ≡ min n (MOVES - a) ⌝ }
-{
-    if Program::MOVES <= a {
-        return 0;
-    }
-    if n <= Program::MOVES - a {
-        n
-    } else {
-        Program::MOVES - a
-    }
-}
-
-// The row behind a rows and b more: no further than the table's end.
-fn row_after(a: usize, b: usize) -> usize
-    ensures { λ r. ⌜ r ≡ min (a + b) MOVES ⌝ }
-{
-    if Program::MOVES <= a {
-        return Program::MOVES;
-    }
-    if b <= Program::MOVES - a {
-        a + b
-    } else {
-        Program::MOVES
-    }
-}
-
 // Stores at + j the n moves from row a on. From the last to the first: the first of a state and event is the one that stays.
 fn store_moves(
     moves: &[u8; 3 * Program::MOVES],
@@ -74,7 +48,7 @@ fn store_moves(
     requires { ⌜ j < 3 ⌝ }
     ensures { λ _. ⌜ now (says .exit) ≡ storedAll j (movesOf (now (moves .entry)) a n) (now (says .entry)) ⌝ }
 {
-    let m = moves_from(a, n);
+    let m = rows_from(Program::MOVES, a, n);
     let mut i = m;
     while 0 < i {
         i = i - 1;

@@ -1,21 +1,20 @@
 -- Values stay values: what an expression gives, what a variable holds; and all of it as the next live number grows.
 use Prim.Native.Nat.{ℕ, zero, suc, _+_, _-_, _≤_, _<_}
 use mathlib.Core.Path.{_≡_, refl, sym, _∙_}
-use mathlib.Core.Bool.{Bool, true, false, cond, true≢false}
+use mathlib.Core.Bool.{Bool, true, false, true≢false}
 use mathlib.Core.List.{List, [], _∷_, map}
 use native.Mathlib.Omega.{arith}
 use borrow.Author.Tests.{eq-eqb}
-use lib.IntN.{ℤ, negℤ, _+ℤ_, _-ℤ_}
+use lib.IntN.{ℤ}
 use lib.ListN.{length, getD, set, take}
 use Rattle.lists.specs.Lists.{keep, push}
 use Rattle.lists.specs.Facts.{All-map, All-getD}
 use Rattle.values.specs.declared.Value.{Value}
 use Rattle.values.specs.declared.Value.the-variants.{Undefined as undefined, Bool as vbool, Int as vint, Event as vevent, Id as vid}
-use Rattle.values.specs.Values.{inRange, checked, withInt, withBool, apply1, apply2}
+use Rattle.values.specs.Values.{checked, apply1, apply2}
+use Rattle.values.specs.Given.{checked-given, apply1-given, apply2-given}
 use Rattle.values.specs.declared.Unary.{Unary}
-use Rattle.values.specs.declared.Unary.the-variants.{Not as not′, Neg as neg}
 use Rattle.values.specs.declared.Binary.{Binary}
-use Rattle.values.specs.declared.Binary.the-variants.{Add as add, Sub as sub, And as and, Or as or}
 use Rattle.programs.specs.Program.{Program, Variable, variableAt, variablesOf, isOf, place}
 use Rattle.programs.specs.declared.Leaf.{Leaf}
 use Rattle.programs.specs.declared.Leaf.the-variants.{Int as intVal, Bool as boolVal, Var as var, This as this, Msg as msg, Arg as arg, Bot as bot, Star as star}
@@ -29,35 +28,13 @@ use Rattle.acceptance.specs.Typed.{typed-values}
 module _ (p : Program) (next : ℕ) where
   -- OPERATORS
   checked-ok : (z : ℤ) → ValueOk p next (checked z)
-  checked-ok z = go (inRange z) refl
-    where
-      go : (b : Bool) → inRange z ≡ b → ValueOk p next (cond b (vint z) undefined)
-      go true e = e
-      go false e = tt
-
-  int-ok : (v : Value) (f : ℤ → Value) → ((z : ℤ) → ValueOk p next (f z)) → ValueOk p next (withInt v f)
-  int-ok undefined f h = tt
-  int-ok (vbool b) f h = tt
-  int-ok (vint z) f h = h z
-  int-ok (vevent e) f h = tt
-  int-ok (vid i) f h = tt
-
-  bool-ok : (v : Value) (f : Bool → Value) → ((b : Bool) → ValueOk p next (f b)) → ValueOk p next (withBool v f)
-  bool-ok undefined f h = tt
-  bool-ok (vbool b) f h = h b
-  bool-ok (vint z) f h = tt
-  bool-ok (vevent e) f h = tt
-  bool-ok (vid i) f h = tt
+  checked-ok = checked-given (ValueOk p next) tt (λ b. tt) (λ z h. h)
 
   apply1-ok : (o : Unary) (x : Value) → ValueOk p next (apply1 o x)
-  apply1-ok not′ x = bool-ok x _ (λ a. tt)
-  apply1-ok neg x = int-ok x _ (λ a. checked-ok (negℤ a))
+  apply1-ok = apply1-given (ValueOk p next) tt (λ b. tt) (λ z h. h)
 
   apply2-ok : (o : Binary) (x y : Value) → ValueOk p next (apply2 o x y)
-  apply2-ok add x y = int-ok x _ (λ a. int-ok y _ (λ b. checked-ok (a +ℤ b)))
-  apply2-ok sub x y = int-ok x _ (λ a. int-ok y _ (λ b. checked-ok (a -ℤ b)))
-  apply2-ok and x y = bool-ok x _ (λ a. bool-ok y _ (λ b. tt))
-  apply2-ok or x y = bool-ok x _ (λ a. bool-ok y _ (λ b. tt))
+  apply2-ok = apply2-given (ValueOk p next) tt (λ b. tt) (λ z h. h)
 
   -- VARIABLES
   pub blank-typed : (xs : List Variable) → TypedAll p next xs (map (λ v. undefined) xs)

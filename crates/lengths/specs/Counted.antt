@@ -2,7 +2,7 @@
 use Prim.Native.Nat.{ℕ}
 use lib.ListN.{length}
 use Rattle.texts.specs.Forms.{Said, eventLine, machineLine, varLine, exprLine, stmtLine, actionLine, stateLine, stepLine, callLine, actLine, startLine, choiceLine}
-use Rattle.tabled.specs.Tabled.{initsOf}
+use Rattle.soundness.specs.Asked.{initOf}
 
 -- a move
 abbrev pub movesIn : Said → ℕ
@@ -25,7 +25,7 @@ pairsIn (eventLine i t) = 0
 pairsIn (machineLine i) = 0
 pairsIn (varLine i v) = 0
 pairsIn (exprLine i b e) = 0
-pairsIn (stmtLine i s) = length (initsOf s)
+pairsIn (stmtLine i s) = length (initOf s)
 pairsIn (actionLine i c) = 0
 pairsIn (stateLine i n) = 0
 pairsIn (stepLine m) = 0

@@ -1,33 +1,27 @@
 -- The bytes of a line by its fields: each part of a field with the byte behind it. What a form asks of them: the bytes of its keys, a byte for each number, and
 -- four for each pair of a list of pairs.
 use Prim.Native.Nat.{ℕ, _+_, _*_, _≤_}
-use mathlib.Core.Path.{_≡_, refl, ap, sym, _∙_}
+use mathlib.Core.Path.{_≡_, refl, ap, _∙_}
 use mathlib.Core.Option.{Option, none, some, Option·some-injective, Option·none-ne-some}
-use mathlib.Core.Bool.{Bool, true, false, cond, true≢false}
+use mathlib.Core.Bool.{Bool, true, false, cond}
 use mathlib.Core.List.{List, [], _∷_, _++_, map}
 use native.Mathlib.Omega.{arith}
-use borrow.Author.Tests.{eqb-true}
-use lib.Dec.{eqb}
 use lib.ListN.{length}
-use Rattle.lists.specs.Lists.{onOpt, All, total}
-use Rattle.lists.specs.Facts.{and-parts, All-map, All-append}
-use Rattle.texts.specs.Bytes.{same, split}
+use Rattle.lists.specs.Lists.{onOpt, All, total, same}
+use Rattle.lists.specs.Facts.{same-equal, All-map, All-append}
+use Rattle.texts.specs.Bytes.{split}
 use Rattle.texts.specs.Numbers.{decimal, signed, numbers, pairs}
 use Rattle.texts.specs.Forms.{Val, aNumber, anInteger, aList, somePairs, one, valueOf, fieldOf, fields, valuesOf, pairsAtIn}
-use Rattle.numerals.specs.Splits.{split-total}
+use Rattle.numerals.specs.Splits.{bytesOf, split-total}
 use Rattle.listings.specs.Counts.{pairs-bytes}
 
 -- THE BYTES OF A LINE
--- of a field, with the byte behind each part
-abbrev fieldBytes : List (List ℕ) → ℕ
-fieldBytes f = total (λ x. length x + 1) f
-
 -- of all fields
 abbrev pub lineBytes : List (List (List ℕ)) → ℕ
-lineBytes g = total fieldBytes g
+lineBytes g = total bytesOf g
 
 -- Each field has the bytes that it was split from;
-split-bytes : (ps : List (List ℕ)) → lineBytes (map (split 61) ps) ≡ fieldBytes ps
+split-bytes : (ps : List (List ℕ)) → lineBytes (map (split 61) ps) ≡ bytesOf ps
 split-bytes [] = refl
 split-bytes (p ∷ ps) = omega (arith, split-total 61 p, split-bytes ps)
 
@@ -59,13 +53,6 @@ Few n x = 4 * length (pairsAtIn x) ≤ n
 few-more : (n m : ℕ) (v : List Val) → n ≤ m → All (Few n) v → All (Few m) v
 few-more n m v h f = All-map (Few n) (Few m) v (λ x k. omega arith) f
 
--- the same bytes are equal
-same-equal : (s t : List ℕ) → same s t ≡ true → s ≡ t
-same-equal [] [] h = refl
-same-equal [] (b ∷ t) h = absurd (true≢false (sym h))
-same-equal (a ∷ s) [] h = absurd (true≢false (sym h))
-same-equal (a ∷ s) (b ∷ t) h = let e = and-parts (eqb a b) (same s t) h in rw (eqb-true a b (e .0), same-equal s t (e .1))
-
 -- n bytes that say the values v: they are not fewer than the fewest, and enough for the pairs
 pub record Takes (least n : ℕ) (v : List Val) : Type 0 where
   pub bytes : least ≤ n
@@ -96,16 +83,16 @@ value-takes h d v e = go (same h (35 ∷ [])) (same h (126 ∷ [])) (same h (64 
     go false false false false false e = absurd (Option·none-ne-some _ e)
 
 -- a field
-field-takes : (f g : List (List ℕ)) (v : List Val) → fieldOf f g ≡ some v → Takes (fieldLeast f) (fieldBytes g) v
+field-takes : (f g : List (List ℕ)) (v : List Val) → fieldOf f g ≡ some v → Takes (fieldLeast f) (bytesOf g) v
 field-takes [] g v e = absurd (Option·none-ne-some _ e)
 field-takes (k ∷ []) g v e = absurd (Option·none-ne-some _ e)
 field-takes (k ∷ h ∷ []) [] v e = absurd (Option·none-ne-some _ e)
 field-takes (k ∷ h ∷ []) (l ∷ []) v e = absurd (Option·none-ne-some _ e)
 field-takes (k ∷ h ∷ []) (l ∷ d ∷ []) v e = go (same k l) refl e
   where
-    go : (b : Bool) → same k l ≡ b → cond b (valueOf h d) none ≡ some v → Takes (length k + 1 + valueLeast h) (fieldBytes (l ∷ d ∷ [])) v
+    go : (b : Bool) → same k l ≡ b → cond b (valueOf h d) none ≡ some v → Takes (length k + 1 + valueLeast h) (bytesOf (l ∷ d ∷ [])) v
     go true s e = let t = value-takes h d v e in
-        record { bytes = omega (arith, t .bytes, ap length (same-equal k l s)); pairs = few-more (length d + 1) (fieldBytes (l ∷ d ∷ [])) v (omega arith) (t .pairs) }
+        record { bytes = omega (arith, t .bytes, ap length (same-equal k l s)); pairs = few-more (length d + 1) (bytesOf (l ∷ d ∷ [])) v (omega arith) (t .pairs) }
     go false s e = absurd (Option·none-ne-some _ e)
 field-takes (k ∷ h ∷ []) (l ∷ d ∷ c ∷ g) v e = absurd (Option·none-ne-some _ e)
 field-takes (k ∷ h ∷ c ∷ t) g v e = absurd (Option·none-ne-some _ e)
@@ -127,5 +114,5 @@ line-takes (f ∷ t) (g ∷ l) v e = go (fieldOf f g) (valuesOf t l) refl refl (
         let r = k y b in
         record {
           bytes = omega (arith, s .bytes, r .bytes);
-          pairs = rw (← Option·some-injective _ _ e) (All-append (Few n) x y (few-more (fieldBytes g) n x (omega arith) (s .pairs)) (few-more (lineBytes l) n y (omega arith) (r .pairs)));
+          pairs = rw (← Option·some-injective _ _ e) (All-append (Few n) x y (few-more (bytesOf g) n x (omega arith) (s .pairs)) (few-more (lineBytes l) n y (omega arith) (r .pairs)));
         }

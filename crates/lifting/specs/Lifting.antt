@@ -1,22 +1,16 @@
 -- What a row lifted out of a flat list is, and the loop that lifts the rooms.
 use Prim.Native.Nat.{ℕ, _+_, _*_, _≤_, _<_}
 use mathlib.Core.Path.{_≡_, refl, sym, _∙_}
-use mathlib.Core.List.{List, append-nil}
+use mathlib.Core.List.{List}
 use mathlib.Core.Logic.{dite}
-use native.Mathlib.Nat.{zero-add}
 use native.Mathlib.Omega.{arith}
 use native.Mathlib.Decide.{ℕ-discrete}
 use lib.ListN.{length, getD, set, length-set, replicate, length-replicate, getD-replicate}
-use lib.Seq.{drop-length, ext-getD, getD-set-same, getD-set-other}
+use lib.Seq.{ext-getD, getD-set-same, getD-set-other}
 use Rattle.rows.specs.Seek.{table, table-length, table-at}
-use Rattle.rows.specs.Part.{part, put, part-length}
+use Rattle.rows.specs.Part.{part, put, put-over, part-length}
 use Rattle.configs.specs.declared.Room.{Room}
 use Rattle.configs.specs.Flat.{Flat, Sized, roomAt, room-path}
-
--- a list that is stored over the whole of another
-put-over : (r xs : List ℕ) → length r ≡ length xs → put 0 r xs ≡ r
-unfolding put
-put-over r xs e = rw (zero-add (length r), e, drop-length xs) (append-nil r)
 
 -- row i of width w of the list `from`, stored over zeros
 pub record Lifted (from : List ℕ) (i w : ℕ) (r : List ℕ) : Type 0 where

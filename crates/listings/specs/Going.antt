@@ -3,7 +3,7 @@
 use Prim.Native.Nat.{ℕ, _+_, _≤_, _<_}
 use mathlib.Core.Path.{_≡_, refl, ap, sym, _∙_}
 use mathlib.Core.Option.{Option, none, some}
-use mathlib.Core.Bool.{Bool, true, false, cond, _&&_, true≢false}
+use mathlib.Core.Bool.{Bool, true, false, cond, _&&_, true≢false, and-false}
 use mathlib.Core.List.{List, [], _∷_, map}
 use native.Mathlib.Omega.{arith}
 use lib.Dec.{ltb}
@@ -13,7 +13,7 @@ use Rattle.soundness.specs.Asked.{ascending}
 use Rattle.texts.specs.Bytes.{more, each, only}
 use Rattle.texts.specs.Numbers.{decimal, listed}
 use Rattle.numerals.specs.Splits.{span, Until}
-use Rattle.listings.specs.Listings.{and-false, isNone, pairIn}
+use Rattle.listings.specs.Listings.{isNone, pairIn}
 use Rattle.listings.specs.Left.{left, left-all, left-none, left-next}
 
 -- how the elements of a list ascend

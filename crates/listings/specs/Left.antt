@@ -6,15 +6,15 @@ use mathlib.Core.Option.{Option, none, some}
 use mathlib.Core.Bool.{Bool, true, false, cond, _&&_, _||_, true≢false}
 use mathlib.Core.List.{List, [], _∷_}
 use native.Mathlib.Omega.{arith}
-use borrow.Author.Tests.{le-leb, lt-leb, eqb-true}
+use borrow.Author.Tests.{le-leb, lt-leb}
 use lib.Dec.{eqb, leb}
 use lib.ListN.{length}
 use Rattle.rows.specs.Pad.{below?}
-use Rattle.lists.specs.Lists.{all, isSome, onOpt}
+use Rattle.lists.specs.Lists.{isSome, onOpt}
 use Rattle.texts.specs.Bytes.{split, before, both}
-use Rattle.texts.specs.Numbers.{digit, plain, decimal, two}
-use Rattle.numerals.specs.Splits.{among, span, span-whole, Until, split-last, split-next, split-end}
-use Rattle.listings.specs.Listings.{and-false, numberOf, pairIn, pairOf}
+use Rattle.texts.specs.Numbers.{decimal, two}
+use Rattle.numerals.specs.Splits.{among, no-decimal, span, span-whole, Until, split-last, split-next, split-end}
+use Rattle.listings.specs.Listings.{numberOf, pairIn, pairOf}
 
 -- the parts between the commas from place a on
 unfoldable pub left : ℕ → List ℕ → List (List ℕ)
@@ -58,19 +58,6 @@ split-two c (b ∷ s) h = go (eqb b c) h (split-two c s) (split-some c s)
     go true h f r = ([], r .0, r .1, rw (r .2))
     go false h f r = let q = f h in (b ∷ q .0, q .1, q .2, rw (q .3))
 
--- a byte that is no digit is in no number
-among-digits : (s : List ℕ) → among 58 s ≡ true → all digit s ≡ false
-among-digits [] h = absurd (true≢false (sym h))
-among-digits (b ∷ s) h = go (eqb b 58) refl h (among-digits s)
-  where
-    go : (t : Bool) → eqb b 58 ≡ t → t || among 58 s ≡ true → (among 58 s ≡ true → all digit s ≡ false) → digit b && all digit s ≡ false
-    go true e h f = rw (eqb-true b 58 e)
-    go false e h f = rw (f h) (and-false (digit b))
-
--- bytes with a colon are no number
-colon-none : (s : List ℕ) → among 58 s ≡ true → decimal s ≡ none
-colon-none s h = rw (among-digits s h, and-false (plain s))
-
 -- a number in front of a colon, and what is behind it
 pub two-parts : (p s : List ℕ) → two (p ∷ split 58 s) ≡ both (decimal p) (decimal s)
 two-parts p s = go (among 58 s) refl
@@ -80,7 +67,7 @@ two-parts p s = go (among 58 s) refl
     no-second (some a) = refl
 
     go : (t : Bool) → among 58 s ≡ t → two (p ∷ split 58 s) ≡ both (decimal p) (decimal s)
-    go true e = let q = split-two 58 s e in rw (q .3, colon-none s e) (no-second (decimal p))
+    go true e = let q = split-two 58 s e in rw (q .3, no-decimal 58 refl s e) (no-second (decimal p))
     go false e = rw (split-last 58 s e)
 
 module _ (d : List ℕ) (a e m : ℕ) (inside : e ≤ length d) (u : Until 58 d a e m) where

@@ -1,23 +1,16 @@
 -- The lists of a part of a text: `defer` has numbers, `init` pairs of numbers. What each part between the commas says, and what the whole does.
-use Prim.Native.Nat.{ℕ, suc, min}
+use Prim.Native.Nat.{ℕ}
 use mathlib.Core.Path.{_≡_, refl, ap, sym, _∙_}
 use mathlib.Core.Option.{Option, none, some}
-use mathlib.Core.Bool.{Bool, true, false, cond, _&&_, true≢false}
+use mathlib.Core.Bool.{Bool, true, false, cond, _&&_, true≢false, and-true}
 use mathlib.Core.List.{List, [], _∷_, map}
 use native.Mathlib.Omega.{arith}
 use lib.Dec.{eqb}
 use lib.ListN.{length, getD}
-use Rattle.lists.specs.Lists.{onOpt, isSome, all}
-use Rattle.lists.specs.Facts.{and-parts}
-use Rattle.texts.specs.Bytes.{bytes, same, split, more, each, only}
+use Rattle.lists.specs.Lists.{onOpt, isSome, all, same}
+use Rattle.lists.specs.Facts.{same-equal}
+use Rattle.texts.specs.Bytes.{bytes, split, more, each, only}
 use Rattle.texts.specs.Numbers.{digit, value, plain, decimal, listed, numbers, two, pairs}
-use Rattle.numerals.specs.declared.Numeral.the-variants.{Not as noNumber, Number as number}
-use Rattle.numerals.specs.Numerals.{CAP, capped}
-
--- nothing more is asked of what does not hold
-pub and-false : (b : Bool) → b && false ≡ false
-and-false true = refl
-and-false false = refl
 
 -- what is there, or else z
 abbrev pub orElse : {A : Type 0} → A → Option A → A
@@ -61,16 +54,6 @@ written x h = go (plain x) (all digit x) refl refl h
     go true true e f h = record { lead = e; digits = f; says = rw (e, f) }
     go true false e f h = absurd (true≢false (sym h))
     go false q e f h = absurd (true≢false (sym h))
-
--- where the code has a number, the part says it;
-pub said-some : (o : Option ℕ) (n : ℕ) → capped o ≡ number n → (true ≡ isSome o) × (n ≡ min (orElse 0 o) CAP)
-said-some none n e = absurd (let z : _≡_ {A = ℕ} 0 1 = cc in omega arith)
-said-some (some m) n e = (refl, cc)
-
--- where it has none, the part says none.
-pub said-none : (o : Option ℕ) → capped o ≡ noNumber → (false ≡ isSome o) × (0 ≡ min (orElse 0 o) CAP)
-said-none none e = (refl, refl)
-said-none (some m) e = absurd (let z : _≡_ {A = ℕ} 0 1 = cc in omega arith)
 
 -- what is there: so a list that is there is `listOf`, or `pairList`
 pub some-is : {A : Type 0} (z : A) (o : Option A) → isSome o ≡ true → o ≡ some (orElse z o)
@@ -130,19 +113,12 @@ none-there none h = refl
 none-there (some l) h = absurd (true≢false h)
 
 -- THE BYTES `none`
--- as many bytes
-same-length : (d t : List ℕ) → same d t ≡ true → length d ≡ length t
-same-length [] [] h = refl
-same-length [] (b ∷ t) h = absurd (true≢false (sym h))
-same-length (a ∷ d) [] h = absurd (true≢false (sym h))
-same-length (a ∷ d) (b ∷ t) h = ap suc (same-length d t (and-parts (eqb a b) (same d t) h .1))
-
 -- not four
 pub none-four : (d : List ℕ) → (length d ≡ 4 → ⊥) → isNone d ≡ false
 none-four d h = go (isNone d) refl
   where
     go : (t : Bool) → isNone d ≡ t → t ≡ false
-    go true e = absurd (h (same-length d (bytes "none") e))
+    go true e = absurd (h (ap length (same-equal d (bytes "none") e)))
     go false e = refl
 
 -- four: each is one of them
@@ -151,9 +127,5 @@ none-each [] h = absurd (omega arith)
 none-each (a ∷ []) h = absurd (omega arith)
 none-each (a ∷ b ∷ []) h = absurd (omega arith)
 none-each (a ∷ b ∷ c ∷ []) h = absurd (omega arith)
-none-each (a ∷ b ∷ c ∷ e ∷ []) h = ap (λ t. eqb a 110 && (eqb b 111 && (eqb c 110 && t))) (go (eqb e 101))
-  where
-    go : (t : Bool) → t && true ≡ t
-    go true = refl
-    go false = refl
+none-each (a ∷ b ∷ c ∷ e ∷ []) h = ap (λ t. eqb a 110 && (eqb b 111 && (eqb c 110 && t))) (and-true (eqb e 101))
 none-each (a ∷ b ∷ c ∷ e ∷ f ∷ d) h = absurd (omega arith)

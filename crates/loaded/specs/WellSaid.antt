@@ -6,13 +6,13 @@ use mathlib.Core.Option.{Option, none, some}
 use mathlib.Core.Bool.{Bool, true, false, cond}
 use mathlib.Core.List.{List, [], _∷_, _++_, map}
 use lib.ListN.{getD}
-use Rattle.lists.specs.Lists.{All, onOpt}
+use Rattle.lists.specs.Lists.{All, onOpt, same}
 use Rattle.lists.specs.Facts.{All-append, All-getD}
 use Rattle.programs.specs.Program.{Program, Stmt, State}
 use Rattle.programs.specs.declared.Expr.{Expr}
 use Rattle.soundness.specs.Asked.{isVoid, ascending, initOf}
 use Rattle.soundness.specs.Sound.{exprRanged}
-use Rattle.texts.specs.Bytes.{bytes, same, only}
+use Rattle.texts.specs.Bytes.{bytes, only}
 use Rattle.texts.specs.Numbers.{decimal, signed, listed, numbers, pairs}
 use Rattle.texts.specs.Forms.{Said, eventLine, machineLine, varLine, exprLine, stmtLine, actionLine, stateLine, stepLine, callLine, actLine, startLine, choiceLine}
 use Rattle.texts.specs.Forms.{Val, aNumber, anInteger, aList, somePairs, one, valueOf, fieldOf, fields, valuesOf, listAtIn, pairsAtIn, Form, forms, saidAs, said}

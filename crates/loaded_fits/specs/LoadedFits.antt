@@ -1,13 +1,14 @@
 -- WHAT THE LOADER HANDS OUT: the program that the text says, which is sound, and whose start configuration is accepted. So it is never refused with 20.
-use Prim.Native.Nat.{ℕ, suc, _≤_, _<_}
-use mathlib.Core.Path.{_≡_, refl, ap, _∙_, subst}
+use Prim.Native.Nat.{ℕ, suc, _≤_}
+use mathlib.Core.Path.{_≡_, refl, ap, _∙_}
 use mathlib.Core.Bool.{Bool, true, false, cond}
-use mathlib.Core.List.{List, [], _∷_}
+use mathlib.Core.List.{List}
 use native.Mathlib.Omega.{arith}
 use borrow.Author.Tests.{ltb-false}
 use lib.Dec.{ltb}
-use lib.ListN.{length, getD}
+use lib.ListN.{length}
 use Rattle.lists.specs.Lists.{There, All}
+use Rattle.lists.specs.Facts.{All-places}
 use Rattle.answers.specs.declared.Answer.the-variants.{TextTooLong}
 use Rattle.programs.specs.Sizes.{TEXT}
 use Rattle.programs.specs.Program.{Program}
@@ -41,14 +42,9 @@ short t p c e = go (ltb TEXT (length t)) refl e
     go true q z = absurd (let y : _≡_ {A = ℕ} 0 1 = cc in omega arith)
     go false q z = ltb-false TEXT (length t) q
 
--- what holds at every place holds of every element
-at-each : {A : Type 0} (P : A → Type 0) (d : A) (l : List A) → ((i : ℕ) → i < length l → P (getD l i d)) → All P l
-at-each P d [] f = tt
-at-each P d (x ∷ l) f = (f 0 (omega arith), at-each P d l (λ i b. f (suc i) (omega arith)))
-
 -- in a sound program every variable's kind is there
 kinds-there : (p : Program) → Sound p → All (λ v. There (p .machines) (v .of)) (p .variables)
-kinds-there p s = at-each (λ v. There (p .machines) (v .of)) noVariable (p .variables) (λ i b. variable-meets p (refers p) (s .all-refer) (suc i) (omega arith, omega arith))
+kinds-there p s = All-places (λ v. There (p .machines) (v .of)) noVariable (p .variables) (λ i b. variable-meets p (refers p) (s .all-refer) (suc i) (omega arith, omega arith))
 
 module _ (t : List ℕ) (p : Program) (c : List Choice) (e : answered t ≡ loaded p c) where
   -- the program is sound,

@@ -2,16 +2,15 @@
 use Prim.Native.Nat.{ℕ, _+_}
 use mathlib.Core.Path.{_≡_, refl}
 use mathlib.Core.List.{List, [], _∷_}
-use Rattle.texts.specs.Reading.{Tables, tables, programOf, loaded, whole}
+use Rattle.texts.specs.Reading.{Tables, tables, programOf, loaded, whole, startsOf}
 use Rattle.tabled.specs.Tabled.{byteOf, tabled}
 use Rattle.judging.specs.Judging.{lent}
-use Rattle.gathering.specs.Gathered.{startLines}
 use Rattle.taking_lines.specs.Gathered.{startWord}
 use Rattle.taking_lines.specs.Asked.{Gathered}
 
 -- with a start the lines are whole
-pub whole-is : (a : Tables) (n : ℕ) → (startWord (startLines a) ≡ 0 → ⊥)
-    → (k : ℕ) × (whole a n ≡ loaded (programOf a k .0) (programOf a k .1)) × (startWord (startLines a) ≡ 1 + byteOf k)
+pub whole-is : (a : Tables) (n : ℕ) → (startWord (startsOf a) ≡ 0 → ⊥)
+    → (k : ℕ) × (whole a n ≡ loaded (programOf a k .0) (programOf a k .1)) × (startWord (startsOf a) ≡ 1 + byteOf k)
 whole-is (tables es ms vs xs ss acs ns ts cs ds [] hs) n z = absurd (z refl)
 whole-is (tables es ms vs xs ss acs ns ts cs ds (k ∷ ks) hs) n z = (k, refl, refl)
 

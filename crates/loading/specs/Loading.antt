@@ -11,22 +11,23 @@ use Rattle.answers.specs.declared.Answer.the-variants.{Done, TextTooLong, NotTh
 use Rattle.answers.specs.Number.{number}
 use Rattle.programs.specs.Sizes.{TEXT}
 use Rattle.programs.specs.Program.{Program}
+use Rattle.soundness.specs.Asked.{initOf}
 use Rattle.machines.specs.Config.{Choice}
 use Rattle.tables.specs.Decode as decode
 use Rattle.texts.specs.Bytes.{LF, split}
-use Rattle.texts.specs.Reading.{Tables, tables, nothing, programOf, Result, loaded, refused, reading}
+use Rattle.texts.specs.Reading.{Tables, tables, nothing, programOf, Result, loaded, refused, reading, startsOf}
 use Rattle.texts.specs.Answered.{passes, judged, judge, answered}
 use Rattle.texts.specs.Verdict.{verdict, ruled}
 use Rattle.loaded.specs.Fitting.{Prepared, prepared}
 use Rattle.tabled.specs.declared.Loaded.{Loaded}
-use Rattle.tabled.specs.Tabled.{tabled, byteOf, initsOf, loadedAs, loadOf}
+use Rattle.tabled.specs.Tabled.{tabled, byteOf, loadedAs, loadOf}
 use Rattle.putting.specs.Counts.{event-count}
 use Rattle.standing.specs.Stood.{Fitting}
 use Rattle.standing.specs.Reads.{prepared-fits}
 use Rattle.standing.specs.Standing.{tabled-judged}
 use Rattle.standing.specs.Absent.{absent-judged, few-variables}
 use Rattle.judging.specs.Judging.{lent}
-use Rattle.gathering.specs.Gathered.{eventLines, startLines}
+use Rattle.gathering.specs.Gathered.{eventLines}
 use Rattle.taking_lines.specs.Gathered.{startWord}
 use Rattle.taking_lines.specs.Asked.{Gathered}
 use Rattle.reading.specs.Order.{Weighs}
@@ -49,13 +50,13 @@ read-refused s h b n e = judged-as s h (refused b n) e
 
 -- what a text is read to has bytes for its moves and its pairs
 weighed : (a : Tables) (k n : ℕ) → n ≤ TEXT → Weighs a n
-    → (length (programOf a k .0 .steps) + (length (programOf a k .0 .calls) + length (programOf a k .0 .acts)) ≤ decode.MOVES) × (length (flat initsOf (programOf a k .0 .stmts)) ≤ decode.PAIRS)
+    → (length (programOf a k .0 .steps) + (length (programOf a k .0 .calls) + length (programOf a k .0 .acts)) ≤ decode.MOVES) × (length (flat initOf (programOf a k .0 .stmts)) ≤ decode.PAIRS)
 weighed (tables es ms vs xs ss acs ns ts cs ds ks hs) k n h w =
     (omega (arith, w .moves, length-append (reverse ts) (reverse cs ++ reverse ds), length-append (reverse cs) (reverse ds)), omega (arith, w .pairs))
 
 module _ {types owners holds rooms exprs : List ℕ} {kinds variables absent : ℕ} {stmts inits actors bodies homes entries exits flags moves choices : List ℕ} {pairs steps calls acts start count : ℕ} (s : List ℕ) (short : length s ≤ TEXT) (w : WholeRead s types owners holds rooms exprs kinds variables absent stmts inits actors bodies homes entries exits flags moves choices pairs steps calls acts start count) where
   -- the start
-  pub starts : startWord (startLines (w .lines)) ≡ 0 → ⊥
+  pub starts : startWord (startsOf (w .lines)) ≡ 0 → ⊥
   starts e = w .started (w .gathered .back .started ∙ e)
 
   -- its kind,
@@ -118,7 +119,7 @@ module _ {types owners holds rooms exprs : List ℕ} {kinds variables absent : �
     fits = go (w .lines) kindOf (w .gathered) (weighed (w .lines) kindOf (length s) short (w .weighs)) (prepared (split LF s) program choicesOf read-whole)
       where
         go : (a : Tables) (k : ℕ) → Gathered a types owners holds rooms exprs kinds variables absent stmts inits actors bodies homes entries exits flags moves choices pairs steps calls acts start count
-            → (length (programOf a k .0 .steps) + (length (programOf a k .0 .calls) + length (programOf a k .0 .acts)) ≤ decode.MOVES) × (length (flat initsOf (programOf a k .0 .stmts)) ≤ decode.PAIRS)
+            → (length (programOf a k .0 .steps) + (length (programOf a k .0 .calls) + length (programOf a k .0 .acts)) ≤ decode.MOVES) × (length (flat initOf (programOf a k .0 .stmts)) ≤ decode.PAIRS)
             → Prepared (programOf a k .0) (programOf a k .1) → Fitting (programOf a k .0)
         go (tables es ms vs xs ss acs ns ts cs ds ks hs) k g b h =
             prepared-fits (programOf (tables es ms vs xs ss acs ns ts cs ds ks hs) k .0) (programOf (tables es ms vs xs ss acs ns ts cs ds ks hs) k .1) h

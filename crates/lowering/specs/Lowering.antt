@@ -2,11 +2,10 @@
 use Prim.Native.Nat.{ℕ, _+_, _<_}
 use mathlib.Core.Path.{_≡_, refl, ap, sym, _∙_}
 use mathlib.Core.Bool.{Bool, true, false, not, _&&_, _||_}
-use mathlib.Core.List.{List, [], _∷_, _++_, map}
+use mathlib.Core.List.{List, [], _∷_, _++_, map, map-append}
 use lib.ListN.{length, take}
 use Rattle.lists.specs.Lists.{at, flat}
 use Rattle.lists.specs.Keep.{flat-snoc}
-use Rattle.lists.specs.Ends.{map-append}
 use Rattle.programs.specs.Program.{Program}
 use Rattle.soundness.specs.Asked.{lower}
 use Rattle.soundness.specs.Sound.{lines, firstFault}

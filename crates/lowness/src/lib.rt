@@ -18,6 +18,8 @@ use programs::Expr;
 use programs::Leaf;
 use tables::Head;
 use tables::Program;
+use tables::rows_from;
+use tables::wide;
 
 // The height of each expression. Costs one turn for each expression.
 fn expr_heights(exprs: &[u32; 3 * (Program::EXPRESSIONS + 1)]) -> [u16; Program::EXPRESSIONS + 1]
@@ -34,13 +36,6 @@ fn expr_heights(exprs: &[u32; 3 * (Program::EXPRESSIONS + 1)]) -> [u16; Program:
         e = e + 1;
     }
     heights
-}
-
-// A height, as wide as the size that it is held against.
-fn wide(x: u16) -> usize
-    ensures { λ r. ⌜ r ≡ x ⌝ }
-{
-    x as usize
 }
 
 // Two counts together: 9 at most.
@@ -128,7 +123,7 @@ fn init_stars(
     ensures { λ r. ⌜ r ≡ fewTotal (counted (now (counts .entry))) (map (λ xe. xe .1) (pairsOf (now (inits .entry)) i n)) ⌝ }
 {
     let a = i as usize;
-    let m = marks::pairs_from(a, n as usize);
+    let m = rows_from(Program::PAIRS, a, n as usize);
     let mut j = m;
     let mut sum: u8 = 0;
     while 0 < j {

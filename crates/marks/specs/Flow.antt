@@ -2,7 +2,7 @@
 -- highest to the lowest, a number is marked where it is one of those marked at first or inside one of them.
 use Prim.Native.Nat.{ℕ, zero, suc, _+_, _-_, _≤_, _<_}
 use mathlib.Core.Path.{_≡_, refl, ap, sym, _∙_}
-use mathlib.Core.Bool.{Bool, true, false, not, cond, _&&_, _||_}
+use mathlib.Core.Bool.{Bool, true, false, not, cond, _&&_, _||_, and-false, or-false, or-assoc}
 use mathlib.Core.List.{List, [], _∷_}
 use mathlib.Core.Logic.{⊎-elim, dite}
 use native.Mathlib.Decide.{ℕ-discrete}
@@ -13,13 +13,9 @@ use lib.Dec.{eqb, ltb}
 use lib.ListN.{length, getD, set, length-set}
 use lib.Seq.{getD-set-same, getD-set-other}
 use Rattle.lists.specs.Lists.{any}
-use Rattle.lists.specs.Facts.{or-false, or-assoc, and-false}
 use Rattle.lists.specs.Down.{below, downward, below-is}
 use Rattle.rows.specs.Pad.{below?}
 use Rattle.rows.specs.Part.{Off}
-use Rattle.marks.specs.declared.Inner.{Inner}
-use Rattle.marks.specs.declared.Inner.the-variants.{Nothing, One, Two}
-use Rattle.marks.specs.Inner.{listed}
 use Rattle.marks.specs.Tall.{below-past}
 
 -- THE MARKS
@@ -319,20 +315,20 @@ module _ (kids : ℕ → List ℕ) (s : ℕ) where
   left-none l b n f = rw (among-none (λ i. on l b i && reach i) n (λ i. rw (f (b + i))), f (b + s), and-false)
 
 -- FOR THE CODE
--- nothing in it,
-pub inner-none : (b n : ℕ) (i : Inner) (l : List ℕ) → i ≡ Nothing → l ≡ markAll b n (listed i) l
+-- no number is marked,
+pub marks-none : (b n : ℕ) (ts l : List ℕ) → ts ≡ [] → l ≡ markAll b n ts l
 unfolding markAll
-inner-none b n i l e = rw e
+marks-none b n ts l e = rw e
 
--- one number,
-pub inner-one : (b n : ℕ) (i : Inner) (l m : List ℕ) (t : ℕ) → i ≡ One t → m ≡ markLow b n t l → m ≡ markAll b n (listed i) l
+-- one,
+pub marks-one : (b n : ℕ) (ts l m : List ℕ) (t : ℕ) → ts ≡ t ∷ [] → m ≡ markLow b n t l → m ≡ markAll b n ts l
 unfolding markAll
-inner-one b n i l m t e h = rw e h
+marks-one b n ts l m t e h = rw e h
 
 -- or two
-pub inner-two : (b n : ℕ) (i : Inner) (l m o : List ℕ) (t u : ℕ) → i ≡ Two t u → m ≡ markLow b n t l → o ≡ markLow b n u m → o ≡ markAll b n (listed i) l
+pub marks-two : (b n : ℕ) (ts l m o : List ℕ) (t u : ℕ) → ts ≡ t ∷ u ∷ [] → m ≡ markLow b n t l → o ≡ markLow b n u m → o ≡ markAll b n ts l
 unfolding markAll
-inner-two b n i l m o t u e h k = rw (e, ← h) k
+marks-two b n ts l m o t u e h k = rw (e, ← h) k
 
 -- the turn of a number that is marked, what it holds told
 pub passed-marked : (kids : ℕ → List ℕ) (b n : ℕ) (ts l m : List ℕ) → (getD l (b + n) 0 ≡ 0 → ⊥) → ts ≡ kids n → m ≡ markAll b n ts l → m ≡ passed kids b n l

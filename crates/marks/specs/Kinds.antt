@@ -1,7 +1,7 @@
 -- A row of marks for each kind: the statements of its actions and states are marked first, and then the marks are passed on to what they hold.
 use Prim.Native.Nat.{ℕ, zero, suc, _+_, _-_, _*_, _≤_, _<_}
 use mathlib.Core.Path.{_≡_, refl, ap, sym, _∙_, fun-ext}
-use mathlib.Core.Bool.{Bool, true, false, cond, _&&_, _||_}
+use mathlib.Core.Bool.{Bool, true, false, cond, _&&_, _||_, and-false, or-false}
 use mathlib.Core.List.{List, [], _∷_}
 use mathlib.Core.Logic.{inl, inr, ⊎-elim, dite}
 use native.Mathlib.Decide.{ℕ-discrete}
@@ -12,15 +12,15 @@ use lib.Dec.{eqb, leb}
 use lib.ListN.{length, getD, set, length-set}
 use lib.Seq.{getD-set-other}
 use Rattle.lists.specs.Lists.{any, there}
-use Rattle.lists.specs.Facts.{or-false, and-false}
 use Rattle.rows.specs.Pad.{below?}
+use Rattle.rows.specs.Part.{one-row}
 use Rattle.rows.specs.Seek.{table}
 use Rattle.programs.specs.Sizes.{KINDS, STMTS, ACTIONS, STATES}
 use Rattle.programs.specs.Program.{Program, Action, State}
 use Rattle.programs.specs.Statements.{inside, serves}
 use Rattle.tables.specs.Decode.{count, actionIn, actionsOf, stateIn, statesOf}
 use Rattle.tables.specs.Tables.{stmts-length}
-use Rattle.marks.specs.Sheet.{one-kind, Sheet, sheet-none, sheet-more, marking}
+use Rattle.marks.specs.Sheet.{Sheet, sheet-none, sheet-more, marking}
 use Rattle.marks.specs.Marks.{Served, Peopled}
 use Rattle.marks.specs.Inner.{partsIn, parts-are, parts-past}
 use Rattle.marks.specs.Flow.{on, reach, reach-leaf, left, left-mark, left-ext, left-none, flowed, flowed-keeps, flowed-on, flowed-off}
@@ -134,7 +134,7 @@ module _ (kids : ℕ → List ℕ) (n s k : ℕ) (past : (m : ℕ) → n < m →
       (λ o h e. dite (ℕ-discrete j k)
       (λ q. rw (eq-eqb j k q, q) (left-mark kids s l (k * 1025) n r e (omega arith)))
       (λ q. rw (ne-eqb j k q) (left-ext kids s (set l (j * 1025 + r) 1) l (k * 1025) n there
-      (λ i b. getD-set-other l (j * 1025 + r) (k * 1025 + i) 1 0 (λ z. q (one-kind j k r i (omega arith) (omega arith) (sym z)))) ∙ sym (or-false (left kids s l (k * 1025) n)))))
+      (λ i b. getD-set-other l (j * 1025 + r) (k * 1025 + i) 1 0 (λ z. q (one-row 1025 j k r i (omega arith) (omega arith) (sym z)))) ∙ sym (or-false (left kids s l (k * 1025) n)))))
       (λ e. rw (reach-leaf kids s r (past r e) (λ z. omega arith), and-false (eqb j k)) (sym (or-false (left kids s l (k * 1025) n))))
       (λ h. rw (ne-eqb j k (λ z. omega (arith, h (omega (arith, z))))) (sym (or-false (left kids s l (k * 1025) n))))
 

@@ -1,7 +1,7 @@
 -- A table of marks with a row for each kind: every place is 0 or 1, and 0 in the row of no kind and behind the last number.
 use Prim.Native.Nat.{ℕ, zero, suc, _+_, _*_, _≤_, _<_}
-use mathlib.Core.Path.{_≡_, refl, _∙_}
-use mathlib.Core.Bool.{Bool, true, false, not, cond, _&&_}
+use mathlib.Core.Path.{_≡_, _∙_}
+use mathlib.Core.Bool.{Bool, not, cond, _&&_}
 use mathlib.Core.List.{List}
 use mathlib.Core.Logic.{⊎-elim, dite}
 use native.Mathlib.Decide.{ℕ-discrete}
@@ -11,7 +11,9 @@ use lib.Dec.{eqb, leb}
 use lib.ListN.{length, getD, set, length-set}
 use lib.Seq.{getD-set-same, getD-set-other}
 use Rattle.lists.specs.Lists.{there}
+use Rattle.lists.specs.Facts.{flag-back}
 use Rattle.rows.specs.Pad.{below?}
+use Rattle.rows.specs.Part.{one-row}
 use Rattle.programs.specs.Sizes.{KINDS}
 
 -- what a mark is that says b of number s in kind k's row, of n numbers: 1 for yes, 0 for no; no number behind n is marked, and no row but a kind's
@@ -25,11 +27,7 @@ pub record Marking (n : ℕ) (f : ℕ → ℕ → Bool) (l : List ℕ) : Type 0 
 
 -- LAW FOR CALLERS: there is a mark where f says so of a number that is there
 pub says-at : {n : ℕ} {f : ℕ → ℕ → Bool} {l : List ℕ} → Marking n f l → (k s : ℕ) → 1 ≤ k → k ≤ 16 → s ≤ 1024 → s ≤ n → not (eqb (getD l (k * 1025 + s) 0) 0) ≡ f k s
-says-at {n} {f} {l} h k s a b c d = rw (h .mark-at k s b c) (rw (le-leb 1 k a, le-leb k 16 b, le-leb s n d) (go (f k s)))
-  where
-    go : (b : Bool) → not (eqb (cond b 1 0) 0) ≡ b
-    go true = refl
-    go false = refl
+says-at {n} {f} {l} h k s a b c d = rw (h .mark-at k s b c) (rw (le-leb 1 k a, le-leb k 16 b, le-leb s n d) (flag-back (f k s)))
 
 -- marks of the numbers up to n alone
 pub record Sheet (n : ℕ) (l : List ℕ) : Type 0 where
@@ -47,13 +45,6 @@ sheet-none n l size nothing = record {
   past = λ k s h i. nothing (k * 1025 + s);
 }
 
--- a place has one kind
-pub one-kind : (j k x y : ℕ) → x ≤ 1024 → y ≤ 1024 → j * 1025 + x ≡ k * 1025 + y → j ≡ k
-one-kind j k x y h e q =
-    let a : j ≤ k = omega arith in
-    let b : k ≤ j = omega arith in
-    omega arith
-
 -- one mark more
 pub sheet-more : (n : ℕ) → n ≤ 1024 → (l : List ℕ) (k t : ℕ) → 1 ≤ k → k ≤ 16 → t ≤ n → Sheet n l → Sheet n (set l (k * 1025 + t) 1)
 sheet-more n fits l k t a b c h = record {
@@ -63,7 +54,7 @@ sheet-more n fits l k t a b c h = record {
       (λ q. rw (getD-set-other l (k * 1025 + t) i 1 0 q) (h .bit i));
   no-kind = λ s i. getD-set-other l (k * 1025 + t) s 1 0 (λ e. omega arith) ∙ h .no-kind s i;
   past = λ j s i m. getD-set-other l (k * 1025 + t) (j * 1025 + s) 1 0
-      (λ e. let q : j ≡ k = one-kind j k s t m (omega arith) e in omega (arith, q)) ∙ h .past j s i m;
+      (λ e. let q : j ≡ k = one-row 1025 j k s t (omega arith) (omega arith) e in omega (arith, q)) ∙ h .past j s i m;
 }
 
 -- so it is the table of what its marks say

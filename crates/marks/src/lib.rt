@@ -1,10 +1,10 @@
 // Tables that are worked out of a program's statements: the height of each, and for each kind the statements that serve it.
 ghost use mathlib.Core.Path.{_≡_};
 ghost use mathlib.Core.List.{List};
-ghost use Prim.Native.Nat.{ℕ, _+_, _-_, _*_, _≤_, _<_, min, max};
+ghost use Prim.Native.Nat.{ℕ, _+_, _-_, _*_, _≤_, _<_, max};
 ghost use Rattle.programs.specs.Program.{Program as Lines};
 ghost use Rattle.programs.specs.Trees.{operands};
-ghost use Rattle.tables.specs.Decode.{actionsOf, statesOf, PAIRS};
+ghost use Rattle.tables.specs.Decode.{actionsOf, statesOf};
 ghost use Rattle.marks.specs.Marks.{Heights, Served, Stated, Peopled};
 ghost use Rattle.marks.specs.Inner.{listed, headParts, partsIn};
 ghost use Rattle.marks.specs.Tall.{lowAt, Low, Over};
@@ -41,20 +41,6 @@ pub fn operands_of(x: Expr) -> Inner
         Expr::Leaf(_) => Inner::Nothing,
         Expr::Unary(_, a) => Inner::One(a),
         Expr::Binary(_, a, b) => Inner::Two(a, b),
-    }
-}
-
-// How many pairs there are of n from place i on: no further than the pool's end.
-pub fn pairs_from(i: usize, n: usize) -> usize
-    ensures { λ r. ⌜ r ≡ min n (PAIRS - i) ⌝ }
-{
-    if Program::PAIRS <= i {
-        return 0;
-    }
-    if n <= Program::PAIRS - i {
-        n
-    } else {
-        Program::PAIRS - i
     }
 }
 

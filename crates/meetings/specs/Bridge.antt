@@ -13,7 +13,7 @@ use Rattle.answers.specs.declared.Answer.the-variants.{QueueFull, SendToNotLive
 use Rattle.programs.specs.Sizes.{SPENT}
 use Rattle.programs.specs.Program.{Program}
 use Rattle.machines.specs.Config.{Pair, Local, Machine, Config, Choice}
-use Rattle.machines.specs.Rooms.{Rooms, find, setLocal, setQueue, on, each, gone, fill, born}
+use Rattle.machines.specs.Rooms.{Rooms, find, setLocal, setQueue, on, each, gone, fill, born, withLocal}
 use Rattle.machines.specs.RoomLaws.{keeps-local, keeps-queue, on-loc-queue, on-queue-loc, on-other, commute-queue, commute-loc, each-each, each-find, each-gone, each-fill, find-num, find-other, find-gone-other, find-fill}
 use Rattle.machines.specs.Queue.{put}
 use Rattle.runs.specs.Outcome.{Out, took, refused}
@@ -69,15 +69,11 @@ module _ (p : Program) where
   abbrev Step : Config → Choice → Out Config Rule
   Step = step p
 
-  -- machine i's local part becomes l
-  abbrev local : ℕ → Local → Config → Config
-  local i l c = record { rooms = each (on i (setLocal l)) (c .rooms); next = c .next }
-
   abbrev config : List (Option Machine) → ℕ → Config
   config rs n = record { rooms = rs; next = n }
 
   -- What another machine does is the same before and after i's local part changes.
-  equiv : (i : ℕ) (l : Local) (c : Config) (k : ℕ) (m : Machine) (a : Act) → k ≢ i → c .next ≢ i → does (local i l c) k m a ≡ mapOut (local i l) (does c k m a)
+  equiv : (i : ℕ) (l : Local) (c : Config) (k : ℕ) (m : Machine) (a : Act) → k ≢ i → c .next ≢ i → does (withLocal i l c) k m a ≡ mapOut (withLocal i l) (does c k m a)
   equiv i l c k m (alone r n) d e = ap (λ rs. took r (config rs (c .next))) (each-each (on i (setLocal l)) (on k (setLocal n)) (c .rooms) (λ m. commute-loc i l k n m d))
   equiv i l c k m (sends t (some x) n) d e = rw (each-find (on i (setLocal l)) (keeps-local i l) t (c .rooms)) (target (find t (c .rooms)))
     where
@@ -86,18 +82,18 @@ module _ (p : Program) where
           ∙ each-each (on i (setLocal l)) (on t (setQueue q)) (each (on k (setLocal n)) (c .rooms)) (commute-queue i l t q)
 
       queued : (o : Option (List Pair)) → onOpt o (refused QueueFull) (λ q. took SEND (config (each (on t (setQueue q)) (each (on k (setLocal n)) (each (on i (setLocal l)) (c .rooms)))) (c .next)))
-          ≡ mapOut (local i l) (onOpt o (refused QueueFull) (λ q. took SEND (config (each (on t (setQueue q)) (each (on k (setLocal n)) (c .rooms))) (c .next))))
+          ≡ mapOut (withLocal i l) (onOpt o (refused QueueFull) (λ q. took SEND (config (each (on t (setQueue q)) (each (on k (setLocal n)) (c .rooms))) (c .next))))
       queued none = refl
       queued (some q) = ap (λ rs. took SEND (config rs (c .next))) (moved q)
 
       target : (o : Option Machine) →
           onOpt (Option·map (on i (setLocal l)) o) (refused SendToNotLive) (λ n′. onOpt (put (n′ .queue) x) (refused QueueFull) (λ q. took SEND (config (each (on t (setQueue q)) (each (on k (setLocal n)) (each (on i (setLocal l)) (c .rooms)))) (c .next))))
-          ≡ mapOut (local i l) (onOpt o (refused SendToNotLive) (λ n′. onOpt (put (n′ .queue) x) (refused QueueFull) (λ q. took SEND (config (each (on t (setQueue q)) (each (on k (setLocal n)) (c .rooms))) (c .next)))))
+          ≡ mapOut (withLocal i l) (onOpt o (refused SendToNotLive) (λ n′. onOpt (put (n′ .queue) x) (refused QueueFull) (λ q. took SEND (config (each (on t (setQueue q)) (each (on k (setLocal n)) (c .rooms))) (c .next)))))
       target none = refl
       target (some n′) = rw (on-loc-queue i l n′) (queued (put (n′ .queue) x))
   equiv i l c k m (sends t none n) d e = rw (each-find (on i (setLocal l)) (keeps-local i l) t (c .rooms)) (target (find t (c .rooms)))
     where
-      target : (o : Option Machine) → onOpt {B = Out Config Rule} (Option·map (on i (setLocal l)) o) (refused SendToNotLive) (λ n′. refused WrongType) ≡ mapOut (local i l) (onOpt o (refused SendToNotLive) (λ n′. refused WrongType))
+      target : (o : Option Machine) → onOpt {B = Out Config Rule} (Option·map (on i (setLocal l)) o) (refused SendToNotLive) (λ n′. refused WrongType) ≡ mapOut (withLocal i l) (onOpt o (refused SendToNotLive) (λ n′. refused WrongType))
       target none = refl
       target (some n′) = refl
   equiv i l c k m (creates f child) d e = room (ltb (c .next) SPENT)
@@ -110,12 +106,12 @@ module _ (p : Program) where
           ∙ each-fill (on i (setLocal l)) new (each (on k (setLocal (f (c .next)))) (c .rooms)) (on-other i (setLocal l) new e)
 
       filled : (o : Option Rooms) → onOpt (Option·map (each (on i (setLocal l))) o) (refused NoRoom) (λ rs. took NEW (config rs (suc (c .next))))
-          ≡ mapOut (local i l) (onOpt o (refused NoRoom) (λ rs. took NEW (config rs (suc (c .next)))))
+          ≡ mapOut (withLocal i l) (onOpt o (refused NoRoom) (λ rs. took NEW (config rs (suc (c .next)))))
       filled none = refl
       filled (some rs) = refl
 
       room : (b : Bool) → cond b (onOpt (fill new (each (on k (setLocal (f (c .next)))) (each (on i (setLocal l)) (c .rooms)))) (refused NoRoom) (λ rs. took NEW (config rs (suc (c .next))))) (refused NoRoom)
-          ≡ mapOut (local i l) (cond b (onOpt (fill new (each (on k (setLocal (f (c .next)))) (c .rooms))) (refused NoRoom) (λ rs. took NEW (config rs (suc (c .next))))) (refused NoRoom))
+          ≡ mapOut (withLocal i l) (cond b (onOpt (fill new (each (on k (setLocal (f (c .next)))) (c .rooms))) (refused NoRoom) (λ rs. took NEW (config rs (suc (c .next))))) (refused NoRoom))
       room true = rw same (filled (fill new (each (on k (setLocal (f (c .next)))) (c .rooms))))
       room false = refl
   equiv i l c k m deletes d e = ap (λ rs. took DELETE (config rs (c .next))) (each-gone (on i (setLocal l)) (keeps-local i l) k (c .rooms))
@@ -126,7 +122,7 @@ module _ (p : Program) where
           ∙ each-each (on i (setLocal l)) (on k (setQueue q)) (each (on k (setLocal n)) (c .rooms)) (commute-queue i l k q)
 
       taken : (o : Option (Local × List Pair)) → onOpt o (refused UnableToStep) (λ t. took DEQUEUE (config (each (on k (setQueue (t .1))) (each (on k (setLocal (t .0))) (each (on i (setLocal l)) (c .rooms)))) (c .next)))
-          ≡ mapOut (local i l) (onOpt o (refused UnableToStep) (λ t. took DEQUEUE (config (each (on k (setQueue (t .1))) (each (on k (setLocal (t .0))) (c .rooms))) (c .next))))
+          ≡ mapOut (withLocal i l) (onOpt o (refused UnableToStep) (λ t. took DEQUEUE (config (each (on k (setQueue (t .1))) (each (on k (setLocal (t .0))) (c .rooms))) (c .next))))
       taken none = refl
       taken (some t) = ap (λ rs. took DEQUEUE (config rs (c .next))) (moved (t .1) (t .0))
   equiv i l c k m (refuses a) d e = refl
@@ -146,7 +142,7 @@ module _ (p : Program) where
 
   -- A step that is no meeting is a private act.
   abbrev PrivateAct : Config → ℕ → Machine → Act → Type 0
-  PrivateAct c k m a = Every (λ r d. meets r ≡ false → (n : Rule) × (l : Local) × (a ≡ alone n l) × (r ≡ n) × (d ≡ local k l c)) (does c k m a)
+  PrivateAct c k m a = Every (λ r d. meets r ≡ false → (n : Rule) × (l : Local) × (a ≡ alone n l) × (r ≡ n) × (d ≡ withLocal k l c)) (does c k m a)
 
   private-act : (c : Config) (k : ℕ) (m : Machine) (a : Act) → PrivateAct c k m a
   private-act c k m (alone n l) = λ _. (n, l, refl, refl, refl)
@@ -191,18 +187,18 @@ module _ (p : Program) where
 
       third : (m : Machine) (n : Rule) (l : Local) → find i (c .rooms) ≡ some m → act p (x .machine) (m .loc) (x .bits) ≡ alone n l → r ≡ n →
           (k : Machine) → find (y .machine) (c .rooms) ≡ some k →
-          (c₃ : Config) × (does c (y .machine) k (act p (y .machine) (k .loc) (y .bits)) ≡ took s c₃) × (local i l c₃ ≡ c₂) →
+          (c₃ : Config) × (does c (y .machine) k (act p (y .machine) (k .loc) (y .bits)) ≡ took s c₃) × (withLocal i l c₃ ≡ c₂) →
           (c₃ : Config) × (Step c y ≡ took s c₃) × (Step c₃ x ≡ took r c₂)
       third m n l f a q k fk (c₃, o, u) = (c₃, steps-on c c₃ y s k fk o, last (every-took _ (does c (y .machine) k (act p (y .machine) (k .loc) (y .bits))) s c₃ (frame i (m .loc) c (y .machine) k (act p (y .machine) (k .loc) (y .bits)) (λ z. d (sym z)) (λ z. fresh m f z) (m, f, refl)) o))
         where
           last : Stays i (m .loc) (c₃ .rooms) → Step c₃ x ≡ took r c₂
           last (m′, f′, e′) = steps-on c₃ c₂ x r m′ f′ (rw (e′, a, q) (ap (took n) u))
 
-      second : (m : Machine) (n : Rule) (l : Local) → find i (c .rooms) ≡ some m → act p (x .machine) (m .loc) (x .bits) ≡ alone n l → r ≡ n → c₁ ≡ local i l c →
+      second : (m : Machine) (n : Rule) (l : Local) → find i (c .rooms) ≡ some m → act p (x .machine) (m .loc) (x .bits) ≡ alone n l → r ≡ n → c₁ ≡ withLocal i l c →
           (k : Machine) × (find (y .machine) (c₁ .rooms) ≡ some k) × (does c₁ (y .machine) k (act p (y .machine) (k .loc) (y .bits)) ≡ took s c₂) →
           (c₃ : Config) × (Step c y ≡ took s c₃) × (Step c₃ x ≡ took r c₂)
       second m n l f a q u (k, fk, o) = third m n l f a q k (sym (find-other (y .machine) i (setLocal l) (λ m. refl) (c .rooms) d) ∙ rw u at fk)
-          (unmap (local i l) _ s c₂ (sym (equiv i l c (y .machine) k (act p (y .machine) (k .loc) (y .bits)) (λ z. d (sym z)) (λ z. fresh m f z)) ∙ rw u at o))
+          (unmap (withLocal i l) _ s c₂ (sym (equiv i l c (y .machine) k (act p (y .machine) (k .loc) (y .bits)) (λ z. d (sym z)) (λ z. fresh m f z)) ∙ rw u at o))
 
       first : (m : Machine) × (find i (c .rooms) ≡ some m) × (does c i m (act p (x .machine) (m .loc) (x .bits)) ≡ took r c₁) →
           (c₃ : Config) × (Step c y ≡ took s c₃) × (Step c₃ x ≡ took r c₂)

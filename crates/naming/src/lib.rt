@@ -14,29 +14,20 @@ ghost use Rattle.faults.specs.Faults.{rowFault};
 ghost use Rattle.faults.specs.Read.{Counted};
 ghost use Rattle.naming.specs.Naming.{pairRefers};
 use faults::Counts;
-use faults::rows_from;
 use programs::Expr;
 use programs::Leaf;
 use tables::Head;
 use tables::Program;
 use tables::expr_count;
+use tables::rows_from;
 use tables::stmt_count;
+use tables::there;
 use tables::variable_count;
 use tables::variable_kind;
 use tables::variable_type;
 use terms::expr_at;
 use terms::stmt_at;
 use values::Ty;
-
-// Number n of a table of the size given.
-pub fn there(size: usize, n: usize) -> bool
-    ensures { λ r. ⌜ r ≡ there size n ⌝ }
-{
-    if n < 1 {
-        return false;
-    }
-    n <= size
-}
 
 // Both.
 pub fn both(a: bool, b: bool) -> bool

@@ -10,6 +10,7 @@ use borrow.Author.Tests.{eqb-true, eqb-false, eq-eqb, ne-eqb, lt-ltb, le-ltb, lt
 use lib.Dec.{eqb, ltb}
 use lib.IntN.{ℤ, pos, negsuc, negℤ}
 use lib.ListN.{length, drop, getD}
+use Rattle.lists.specs.Lists.{onOpt, isSome}
 use Rattle.values.specs.Values.{inRange}
 use Rattle.texts.specs.Forms.{isOne, zeroOrOne}
 use Rattle.texts.specs.Numbers.{decimal, signed, minus, plus}
@@ -49,32 +50,24 @@ negative (number n) = cond (eqb n 0) noInteger (integer (negℤ (pos n)))
 
 -- WHAT THE CUT NUMBER SAYS
 -- The code has a number: the text has one, of which it is the cut;
-pub number-there : (o : Option ℕ) (n : ℕ) → capped o ≡ number n → (m : ℕ) × ((o ≡ some m) × (n ≡ min m CAP))
+pub number-there : (o : Option ℕ) (n : ℕ) → capped o ≡ number n → (true ≡ isSome o) × (n ≡ min (onOpt o 0 (λ m. m)) CAP)
 number-there none n e = absurd (let z : _≡_ {A = ℕ} 0 1 = cc in omega arith)
-number-there (some m) n e = (m, (refl, cc))
+number-there (some m) n e = (refl, cc)
 
--- it has none: the text has none.
-pub number-missing : (o : Option ℕ) → capped o ≡ noNumber → o ≡ none
-number-missing none e = refl
+-- it has none: the text has none, and that counts as 0.
+pub number-missing : (o : Option ℕ) → capped o ≡ noNumber → (false ≡ isSome o) × (0 ≡ min (onOpt o 0 (λ m. m)) CAP)
+number-missing none e = (refl, refl)
 number-missing (some m) e = absurd (let z : _≡_ {A = ℕ} 0 1 = cc in omega arith)
 
--- And back: of a number that the text has, the code has the cut.
-pub there-number : (o : Option ℕ) (m : ℕ) → o ≡ some m → capped o ≡ number (min m CAP)
-there-number o m e = rw e
-
 -- The same of an integer.
-pub integer-there : (o : Option ℤ) (n : ℤ) → cappedInt o ≡ integer n → (z : ℤ) × ((o ≡ some z) × (n ≡ cut z))
-integer-there none n e = absurd (let z : _≡_ {A = ℕ} 0 1 = cc in omega arith)
-integer-there (some z) n e = (z, (refl, cc))
+pub integer-there : (o : Option ℤ) (z : ℤ) → cappedInt o ≡ integer z → (true ≡ isSome o) × (z ≡ cut (onOpt o (pos 0) (λ m. m)))
+integer-there none z e = absurd (let y : _≡_ {A = ℕ} 0 1 = cc in omega arith)
+integer-there (some m) z e = (refl, cc)
 
--- it has none
-pub integer-missing : (o : Option ℤ) → cappedInt o ≡ noInteger → o ≡ none
-integer-missing none e = refl
-integer-missing (some m) e = absurd (let z : _≡_ {A = ℕ} 0 1 = cc in omega arith)
-
--- And back.
-pub there-integer : (o : Option ℤ) (z : ℤ) → o ≡ some z → cappedInt o ≡ integer (cut z)
-there-integer o z e = rw e
+-- and of none
+pub integer-missing : (o : Option ℤ) → cappedInt o ≡ noInteger → (false ≡ isSome o) × (pos 0 ≡ cut (onOpt o (pos 0) (λ m. m)))
+integer-missing none e = (refl, refl)
+integer-missing (some m) e = absurd (let y : _≡_ {A = ℕ} 0 1 = cc in omega arith)
 
 -- WHAT IS ASKED OF THE CUT NUMBER
 -- below k, where the cut is not below k

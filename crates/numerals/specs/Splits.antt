@@ -1,23 +1,36 @@
 -- The parts of a list between the bytes c, by their places: the first is behind none, and each other is behind a c.
 use Prim.Native.Nat.{ℕ, suc, _+_, _-_, _≤_, _<_}
 use mathlib.Core.Path.{_≡_, refl, ap, sym, _∙_}
-use mathlib.Core.Logic.{dite}
-use mathlib.Core.Bool.{Bool, true, false, cond}
+use mathlib.Core.Option.{none}
+use mathlib.Core.Bool.{Bool, true, false, cond, _&&_, _||_, true≢false, and-false}
 use mathlib.Core.List.{List, [], _∷_, _++_}
 use native.Mathlib.Numerals.{add-one}
-use native.Mathlib.Decide.{ℕ-discrete}
 use native.Mathlib.Omega.{arith}
-use borrow.Author.Tests.{ne-eqb}
+use borrow.Author.Tests.{eqb-true, ne-eqb}
 use lib.Dec.{eqb}
 use lib.ListN.{length, take, drop, getD, length-take, length-drop}
 use lib.Seq.{take-add, take-all, drop-drop, drop-cons, getD-take, getD-drop}
-use Rattle.lists.specs.Lists.{any, total}
-use Rattle.lists.specs.Facts.{eqb-same, or-none}
+use Rattle.lists.specs.Lists.{any, all, total}
+use Rattle.lists.specs.Facts.{eqb-same, or-none, and-fails, range-more}
 use Rattle.texts.specs.Bytes.{before, split}
+use Rattle.texts.specs.Numbers.{digit, plain, decimal}
 
 -- c is among the bytes
 abbrev pub among : ℕ → List ℕ → Bool
 among c l = any (λ b. eqb b c) l
+
+-- bytes with one that is no digit are not all digits,
+pub no-digits : (c : ℕ) → digit c ≡ false → (d : List ℕ) → among c d ≡ true → all digit d ≡ false
+no-digits c n [] h = absurd (true≢false (sym h))
+no-digits c n (b ∷ d) h = go (eqb b c) refl h (no-digits c n d)
+  where
+    go : (t : Bool) → eqb b c ≡ t → t || among c d ≡ true → (among c d ≡ true → all digit d ≡ false) → digit b && all digit d ≡ false
+    go true e h f = rw (eqb-true b c e, n)
+    go false e h f = and-fails (digit b) (all digit d) (f h)
+
+-- and no number
+pub no-decimal : (c : ℕ) → digit c ≡ false → (d : List ℕ) → among c d ≡ true → decimal d ≡ none
+no-decimal c n d h = rw (no-digits c n d h, and-false (plain d))
 
 -- Without a c there is one part.
 pub split-last : (c : ℕ) (p : List ℕ) → among c p ≡ false → split c p ≡ p ∷ []
@@ -29,18 +42,21 @@ pub split-first : (c : ℕ) (p s : List ℕ) → among c p ≡ false → split c
 split-first c [] s h = rw eqb-same
 split-first c (b ∷ p) s h = let e = or-none (eqb b c) (among c p) h in rw (e .0, split-first c p s (e .1))
 
+-- the bytes of the parts, with the one behind each
+abbrev pub bytesOf : List (List ℕ) → ℕ
+bytesOf ls = total (λ x. length x + 1) ls
+
 -- A byte in front of the first part is one more byte.
-before-total : (b : ℕ) (ls : List (List ℕ)) → 1 ≤ total (λ x. length x + 1) ls → total (λ x. length x + 1) (before b ls) ≡ total (λ x. length x + 1) ls + 1
+before-total : (b : ℕ) (ls : List (List ℕ)) → 1 ≤ bytesOf ls → bytesOf (before b ls) ≡ bytesOf ls + 1
 before-total b [] h = absurd (omega arith)
 before-total b (l ∷ ls) h = omega arith
 
 -- The parts have all the bytes but the c, which are one fewer than the parts.
-pub split-total : (c : ℕ) (d : List ℕ) → total (λ x. length x + 1) (split c d) ≡ length d + 1
+pub split-total : (c : ℕ) (d : List ℕ) → bytesOf (split c d) ≡ length d + 1
 split-total c [] = refl
 split-total c (b ∷ d) = go (eqb b c) (split-total c d)
   where
-    go : (t : Bool) → total (λ x. length x + 1) (split c d) ≡ length d + 1
-        → total (λ x. length x + 1) (cond t ([] ∷ split c d) (before b (split c d))) ≡ length (b ∷ d) + 1
+    go : (t : Bool) → bytesOf (split c d) ≡ length d + 1 → bytesOf (cond t ([] ∷ split c d) (before b (split c d))) ≡ length (b ∷ d) + 1
     go true e = omega arith
     go false e = before-total b (split c d) (omega arith) ∙ omega arith
 
@@ -121,7 +137,7 @@ module _ (c : ℕ) (d : List ℕ) (from to : ℕ) where
   past-more i p h n = record {
     low = omega (arith, p .low);
     high = omega arith;
-    free = λ k l m. dite (ℕ-discrete k i) (λ (q : k ≡ i). rw q n) (λ q. p .free k l (omega arith));
+    free = range-more (λ k. getD d k 0 ≡ c → ⊥) from i (p .free) n;
   }
 
   -- found

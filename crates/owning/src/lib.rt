@@ -3,19 +3,13 @@ use answers::Answer;
 use engine::Outcome;
 use tables::Head;
 use tables::Program;
+use tables::index;
 ghost use mathlib.Core.Path.{_≡_};
 ghost use mathlib.Core.List.{List};
 ghost use Prim.Native.Nat.{ℕ, _+_, _-_, _*_};
 ghost use lib.ListN.{getD};
 ghost use Rattle.stacks.specs.Stacks.{Deep};
 ghost use Rattle.owning.specs.Owning.{OwnAsked, Owned};
-
-// A state's number, as an index.
-fn low(x: u8) -> usize
-    ensures { λ r. ⌜ r ≡ x ⌝ }
-{
-    x as usize
-}
 
 // The state on top of room k's stack.
 pub fn top_state(
@@ -27,7 +21,7 @@ pub fn top_state(
     ensures { λ r. ⌜ r ≡ getD (now (states .entry)) (k * 8 + (getD (now (depths .entry)) k 0 - 1)) 0 ⌝ }
 {
     let d = depths[k] - 1;
-    low(states[k * Program::STACK + d])
+    index(states[k * Program::STACK + d])
 }
 
 // Where the map on top of room k's stack begins.

@@ -15,6 +15,7 @@ use programs::Expr;
 use programs::Leaf;
 use tables::Head;
 use tables::Program;
+use tables::rows_from;
 
 // The kind of variable x.
 fn kind_of(variable_of: &[u16; Program::ALL_VARIABLES + 1], x: u16) -> u8
@@ -113,7 +114,7 @@ fn own_pairs(
     ensures { λ r. ⌜ r ≡ all (ownPair (now («variable_of» .entry)) m) (pairsOf (now (inits .entry)) i c) ⌝ }
 {
     let a = i as usize;
-    let n = marks::pairs_from(a, c as usize);
+    let n = rows_from(Program::PAIRS, a, c as usize);
     let mut j = 0;
     while j < n {
         let x = inits[(a + j) * 2];

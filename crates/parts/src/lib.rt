@@ -1,16 +1,9 @@
 // The remaining statement of a room: a row of parts, 33 places from b on in all rooms' parts, its head the last of its n parts, and zeros behind them.
 use tables::Head;
 use tables::Program;
-ghost use mathlib.Core.Path.{_≡_};
+use tables::wide;
 ghost use Prim.Native.Nat.{_≤_};
 ghost use Rattle.parts.specs.Parts.{Row, Ready, Becomes, Said, Any, alone, finished, settled, tidied};
-
-// A statement's number, as an index.
-fn wide(x: u16) -> usize
-    ensures { λ r. ⌜ r ≡ x ⌝ }
-{
-    x as usize
-}
 
 // A lone skip with nothing pending is kept as the empty row.
 pub fn lone(

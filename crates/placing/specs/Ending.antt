@@ -1,12 +1,12 @@
 -- The meetings, the other machines' tails, the last choice's machine and the last choice: the list regrouped.
 use Prim.Native.Nat.{ℕ, _+_, _-_, _≤_}
 use mathlib.Core.Path.{_≡_, refl, sym, ap, _∙_}
-use mathlib.Core.List.{List, [], _∷_, _++_, append-assoc}
+use mathlib.Core.List.{List, [], _∷_, _++_, append-assoc, map-append}
 use native.Mathlib.Omega.{arith}
 use lib.ListN.{length, getD, take, drop, length-append, length-map, length-take, drop-of-length-le}
 use lib.Seq.{sets, length-sets}
 use Rattle.lists.specs.Facts.{All-each}
-use Rattle.lists.specs.Ends.{lastOf, take-init, map-append}
+use Rattle.lists.specs.Ends.{lastOf, take-init}
 use Rattle.regrouping.specs.Regrouped.{mine, others, byNumber, weave}
 use Rattle.regrouping.specs.Demand.{choices}
 use Rattle.placing.specs.Placed.{owner, ownerAt, withRules, ownN, meetN, placedList}

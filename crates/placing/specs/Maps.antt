@@ -2,13 +2,12 @@
 use Prim.Native.Nat.{ℕ, zero, suc}
 use mathlib.Core.Path.{_≡_, refl, sym, ap, _∙_}
 use mathlib.Core.Bool.{Bool, true, false, not, cond}
-use mathlib.Core.List.{List, [], _∷_, _++_, map}
+use mathlib.Core.List.{List, [], _∷_, _++_, map, map-append}
 use lib.Dec.{eqb}
 use lib.ListN.{length, length-map}
 use Rattle.lists.specs.Lists.{push, keep, All}
 use Rattle.lists.specs.Facts.{All-map, All-append}
 use Rattle.lists.specs.Keep.{All-keep}
-use Rattle.lists.specs.Ends.{map-append}
 use Rattle.regrouping.specs.Regrouped.{mine, others, least, tails, byNumber, weave, regrouped}
 
 module _ {E F : Type 0} (f : E → F) where

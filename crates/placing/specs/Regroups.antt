@@ -1,11 +1,11 @@
 -- The regrouped list of numbers is the regrouped list of the choices that the numbers are.
 use Prim.Native.Nat.{ℕ, _<_}
 use mathlib.Core.Path.{_≡_, refl, sym, ap, _∙_}
-use mathlib.Core.List.{List, [], _∷_, _++_, map, map-map, cons-ne-nil}
+use mathlib.Core.List.{List, [], _∷_, _++_, map, map-map, cons-ne-nil, map-append}
 use Rattle.lists.specs.Lists.{All}
 use Rattle.lists.specs.Facts.{All-each, All-map}
 use Rattle.lists.specs.Keep.{All-image, image-All}
-use Rattle.lists.specs.Ends.{initOf, lastOf, map-init, map-last, map-append}
+use Rattle.lists.specs.Ends.{initOf, lastOf, map-init, map-last}
 use Rattle.machines.specs.Config.{Choice}
 use Rattle.rules.specs.declared.Rule.{Rule}
 use Rattle.choices.specs.Choices.{choiceWord, choiceOf, choicesOf, word-again, bits-small, choice-again}

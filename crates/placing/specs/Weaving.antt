@@ -2,14 +2,13 @@
 use Prim.Native.Nat.{ℕ, _+_, _≤_, _<_}
 use mathlib.Core.Path.{_≡_, refl, sym, ap, _∙_}
 use mathlib.Core.Bool.{true, false}
-use mathlib.Core.List.{List, [], _∷_, _++_, append-assoc}
+use mathlib.Core.List.{List, [], _∷_, _++_, append-assoc, map-append}
 use native.Mathlib.Nat.{add-zero}
 use native.Mathlib.Numerals.{add-one}
 use native.Mathlib.Omega.{arith}
 use lib.ListN.{length, getD, take, drop, length-append, length-map, length-take}
 use lib.Seq.{sets, length-sets, drop-cons, drop-drop, getD-drop, getD-take, length-take-le}
 use Rattle.lists.specs.Facts.{All-each}
-use Rattle.lists.specs.Ends.{map-append}
 use Rattle.labels.specs.Labels.{meeting}
 use Rattle.regrouping.specs.Regrouped.{mine, others, weave}
 use Rattle.regrouping.specs.Demand.{choices}

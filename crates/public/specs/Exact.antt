@@ -6,7 +6,7 @@ use mathlib.Core.Option.{Option, none, some, Option·none-ne-some}
 use mathlib.Core.Bool.{Bool, true, false, cond, true≢false}
 use mathlib.Core.List.{List, [], _∷_}
 use native.Mathlib.Omega.{arith}
-use borrow.Author.Tests.{leb-true, leb-false, le-leb}
+use borrow.Author.Tests.{leb-true, leb-false, le-leb, lt-leb}
 use lib.Dec.{leb}
 use lib.ListN.{length}
 use Rattle.lists.specs.Tells.{Tells, both}
@@ -85,13 +85,6 @@ module _ (p : Program) (c : Config) where
     within : length l ≤ CHOICES → leb (length l) CHOICES ≡ true
     within h = le-leb (length l) CHOICES h
 
-    above : (m n : ℕ) → n < m → leb m n ≡ false
-    above m n h = go (leb m n) refl
-      where
-        go : (b : Bool) → leb m n ≡ b → b ≡ false
-        go true e = absurd (omega (arith, leb-true m n e))
-        go false e = refl
-
     -- THE RUN: 20, then 3, before the first choice; otherwise it is the run
     pub run-20 : (Fit → ⊥) → publicRun p c l ≡ stopped c NotAccepted
     unfolding publicRun
@@ -100,7 +93,7 @@ module _ (p : Program) (c : Config) where
     -- 3
     pub run-3 : Fit → CHOICES < length l → publicRun p c l ≡ stopped c OutOfRange
     unfolding publicRun
-    run-3 h k = rw (fit-true h, above (length l) CHOICES k)
+    run-3 h k = rw (fit-true h, lt-leb (length l) CHOICES k)
 
     -- otherwise
     pub run-fit : Fit → length l ≤ CHOICES → publicRun p c l ≡ ran (run (step p) c l)
@@ -115,7 +108,7 @@ module _ (p : Program) (c : Config) where
     -- none at 3
     pub rules-3 : Fit → CHOICES < length l → publicRules p c l ≡ []
     unfolding publicRules
-    rules-3 h k = rw (fit-true h, above (length l) CHOICES k)
+    rules-3 h k = rw (fit-true h, lt-leb (length l) CHOICES k)
 
     -- REGROUP: the occasions of its answers, `room` being the length of the output buffer
     module _ (room : ℕ) where
@@ -159,12 +152,12 @@ module _ (p : Program) (c : Config) where
       -- 3
       pub regroup-3 : Fit → CHOICES < length l → publicRegroup p c l room ≡ wroteNothing OutOfRange
       unfolding publicRegroup
-      regroup-3 h k = rw (fit-true h, above (length l) CHOICES k)
+      regroup-3 h k = rw (fit-true h, lt-leb (length l) CHOICES k)
 
       -- 21
       pub regroup-21 : Fit → length l ≤ CHOICES → room < length l → publicRegroup p c l room ≡ wroteNothing BufferTooShort
       unfolding publicRegroup
-      regroup-21 h k r = rw (fit-true h, within k, above (length l) room r)
+      regroup-21 h k r = rw (fit-true h, within k, lt-leb (length l) room r)
 
       none-listed : (Stepped (step p) c (butLast l) → ⊥) → (o : Option (List Choice)) → regroup p c l ≡ o →
           listed o .answer ≡ TookNoStep

@@ -1,17 +1,12 @@
--- Stores behind a list that zeros follow: a row of one, three or five numbers, and the count in front of the rows.
-use Prim.Native.Nat.{ℕ, _+_, _-_, _≤_, _<_}
-use mathlib.Core.Path.{_≡_, refl, ap, sym, _∙_}
+-- Stores behind a list that zeros follow: a row of one, three or five numbers.
+use Prim.Native.Nat.{ℕ, _+_, _≤_, _<_}
+use mathlib.Core.Path.{_≡_, ap, sym, _∙_}
 use mathlib.Core.List.{List, [], _∷_, _++_, append-assoc}
 use native.Mathlib.Omega.{arith}
 use lib.ListN.{length, set, length-append}
 use Rattle.rows.specs.Pad.{pad, pad-snoc}
 
 module _ {A : Type 0} (z : A) (size : ℕ) where
-  -- the number in front of a list
-  pub front-set : (x y : A) (xs : List A) → set (pad z size (x ∷ xs)) 0 y ≡ pad z size (y ∷ xs)
-  unfolding pad
-  front-set x y xs = refl
-
   module _ (n : ℕ) (xs : List A) (e : length xs ≡ n) where
     -- one number more in the row that is stored from place n on
     row-more : (r : List A) (a : A) → n + length r < size → set (pad z size (xs ++ r)) (n + length r) a ≡ pad z size (xs ++ (r ++ a ∷ []))

@@ -1,4 +1,4 @@
--- How long the rows of the lines are; the tables' counts and lengths.
+-- How long the rows of the tables are together; the tables' counts and lengths.
 use Prim.Native.Nat.{ℕ, _+_, _*_, _≤_, _<_}
 use mathlib.Core.Path.{_≡_, refl, _∙_}
 use mathlib.Core.List.{List, [], _∷_, _++_, map}
@@ -8,58 +8,18 @@ use Rattle.lists.specs.Lists.{flat}
 use Rattle.lists.specs.Facts.{All-each}
 use Rattle.lists.specs.Keep.{flat-length}
 use Rattle.rows.specs.Pad.{pad, pad-length, pad-get}
-use Rattle.rows.specs.Seek.{table-length}
 use Rattle.values.specs.declared.Ty.{Ty}
-use Rattle.values.specs.declared.Unary.the-variants.{Not as not′, Neg as neg}
-use Rattle.values.specs.declared.Binary.the-variants.{Add as add, Sub as sub, And as and, Or as or}
 use Rattle.programs.specs.Sizes.{KINDS, EVENTS, VARIABLES, EXPRS, STMTS, ACTIONS, STATES, CHOICES}
-use Rattle.programs.specs.declared.Leaf.{Leaf}
-use Rattle.programs.specs.declared.Leaf.the-variants.{Bot as bot, Int as intVal, Bool as boolVal, Var as var, This as this, Msg as msg, Arg as arg, Star as star}
 use Rattle.programs.specs.declared.Expr.{Expr}
-use Rattle.programs.specs.declared.Expr.the-variants.{Leaf as leaf, Unary as unary, Binary as binary}
-use Rattle.programs.specs.Program.{Variable, Stmt, Action, State, Move, skip, assign, new, delete, send, raise, leave, return, assert, seq, if, while}
+use Rattle.programs.specs.Program.{Variable, Stmt, Action, State, Move}
+use Rattle.soundness.specs.Asked.{initOf}
 use Rattle.machines.specs.Config.{Choice}
 use Rattle.tables.specs.Decode.{MOVES, PAIRS}
-use Rattle.tabled.specs.Tabled.{tyCode, eventTable, variableKinds, variableTypes, leafRow, exprRow, exprTable, stmtRow, stmtRows, initsOf, stmtTable, pairRow, initPool}
+use Rattle.tabled.specs.Tabled.{tyCode, eventTable, variableKinds, variableTypes, exprRow, exprTable, stmtRow, stmtRows, stmtTable, pairRow, initPool}
+use Rattle.tabled.specs.Widths.{expr-three, stmt-five, flag-length}
 use Rattle.tabled.specs.Tabled.{actionKinds, actionBodies, stateKinds, stateEntries, stateExits, flagRow, deferTable, moveRow, moveTable, choiceTable}
 
 -- ROWS
--- a leaf's row has three numbers
-leaf-three : (l : Leaf) → length (leafRow l) ≡ 3
-leaf-three bot = refl
-leaf-three (intVal z) = refl
-leaf-three (boolVal b) = refl
-leaf-three (var x) = refl
-leaf-three this = refl
-leaf-three msg = refl
-leaf-three arg = refl
-leaf-three star = refl
-
--- so has every expression's
-expr-three : (e : Expr) → length (exprRow e) ≡ 3
-expr-three (leaf l) = leaf-three l
-expr-three (unary not′ a) = refl
-expr-three (unary neg a) = refl
-expr-three (binary add a b) = refl
-expr-three (binary sub a b) = refl
-expr-three (binary and a b) = refl
-expr-three (binary or a b) = refl
-
--- a statement's has five
-stmt-five : (i : ℕ) (s : Stmt) → length (stmtRow i s) ≡ 5
-stmt-five i skip = refl
-stmt-five i (assign x e) = refl
-stmt-five i (new x k l) = refl
-stmt-five i delete = refl
-stmt-five i (send t e a) = refl
-stmt-five i (raise e a) = refl
-stmt-five i leave = refl
-stmt-five i return = refl
-stmt-five i (assert e) = refl
-stmt-five i (seq a b) = refl
-stmt-five i (if e a b) = refl
-stmt-five i (while e a) = refl
-
 -- rows of one width
 rows-length : {A : Type 0} (row : A → List ℕ) (w : ℕ) → ((x : A) → length (row x) ≡ w) → (l : List A) → length (flat row l) ≡ length l * w
 rows-length row w f l = flat-length row w l (All-each (λ x. length (row x) ≡ w) f l)
@@ -72,15 +32,11 @@ expr-rows xs = rows-length exprRow 3 expr-three xs
 pub stmt-rows : (i : ℕ) (ss : List Stmt) → length (stmtRows i ss) ≡ length ss * 5
 stmt-rows i [] = refl
 stmt-rows i (s ∷ ss) =
-    length-append (stmtRow i s) (stmtRows (i + length (initsOf s)) ss) ∙ omega (arith, stmt-five i s, stmt-rows (i + length (initsOf s)) ss)
+    length-append (stmtRow i s) (stmtRows (i + length (initOf s)) ss) ∙ omega (arith, stmt-five i s, stmt-rows (i + length (initOf s)) ss)
 
 -- the pairs'
 pub pair-rows : (l : List (ℕ × ℕ)) → length (flat pairRow l) ≡ length l * 2
 pair-rows l = rows-length pairRow 2 (λ x. refl) l
-
--- a state has 65 flags
-pub flag-length : (s : State) → length (flagRow s) ≡ 65
-flag-length s = table-length _ 0 65
 
 -- the states' flags
 pub flag-rows : (ns : List State) → length (flat flagRow ns) ≡ length ns * 65
@@ -152,9 +108,9 @@ unfolding stmtTable
 stmt-length ss h = pad-length 0 5125 _ (omega (arith, stmt-rows 0 ss))
 
 -- the pool of pairs
-pub pool-length : (ss : List Stmt) → length (flat initsOf ss) ≤ PAIRS → length (initPool ss) ≡ 30000
+pub pool-length : (ss : List Stmt) → length (flat initOf ss) ≤ PAIRS → length (initPool ss) ≡ 30000
 unfolding initPool
-pool-length ss h = pad-length 0 30000 _ (omega (arith, pair-rows (flat initsOf ss)))
+pool-length ss h = pad-length 0 30000 _ (omega (arith, pair-rows (flat initOf ss)))
 
 -- the actions' kinds
 pub action-kinds-length : (acs : List Action) → length acs ≤ ACTIONS → length (actionKinds acs) ≡ 65

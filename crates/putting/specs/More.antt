@@ -1,24 +1,24 @@
 -- One more row in each table, as the stores make it.
 use Prim.Native.Nat.{ℕ, _+_, _*_, _<_}
 use mathlib.Core.Path.{_≡_, ap, sym, _∙_}
-use mathlib.Core.List.{List, [], _∷_, _++_, map, append-assoc, append-nil}
+use mathlib.Core.List.{List, [], _∷_, _++_, map, append-assoc, append-nil, map-append}
 use native.Mathlib.Nat.{add-zero, zero-add}
 use native.Mathlib.Omega.{arith}
 use lib.ListN.{length, getD, set, length-append, length-map}
 use Rattle.lists.specs.Lists.{flat}
 use Rattle.lists.specs.Keep.{flat-snoc}
-use Rattle.lists.specs.Ends.{map-append}
-use Rattle.rows.specs.Pad.{pad}
+use Rattle.rows.specs.Pad.{pad, pad-set}
 use Rattle.values.specs.declared.Ty.{Ty}
 use Rattle.programs.specs.Sizes.{KINDS, EVENTS, VARIABLES, EXPRS, STMTS, ACTIONS, STATES}
 use Rattle.programs.specs.declared.Expr.{Expr}
 use Rattle.programs.specs.Program.{Variable, Stmt, Action, State, Move}
+use Rattle.soundness.specs.Asked.{initOf}
 use Rattle.machines.specs.Config.{Choice}
-use Rattle.tabled.specs.Tabled.{byteOf, wordOf, tyCode, eventTable, variableKinds, variableTypes, exprRow, exprTable, stmtRow, stmtRows, initsOf, stmtTable}
+use Rattle.tabled.specs.Tabled.{byteOf, wordOf, tyCode, eventTable, variableKinds, variableTypes, exprRow, exprTable, stmtRow, stmtRows, stmtTable}
 use Rattle.choices.specs.Choices.{choiceWord}
 use Rattle.tabled.specs.Tabled.{actionKinds, actionBodies, stateKind, stateKinds, stateEntries, stateExits, moveRow, moveTable, choiceTable}
 use Rattle.putting.specs.Asked.{EventRoom, VariableTables, VariableRoom, ExprRoom, StmtRoom, ActionTables, ActionRoom, StateTables, StateRoom, MoveRoom, ChoiceRoom}
-use Rattle.putting.specs.Behind.{front-set, row-one, row-three, row-five}
+use Rattle.putting.specs.Behind.{row-one, row-three, row-five}
 use Rattle.putting.specs.Counts.{expr-rows, stmt-rows, move-rows, event-count, variable-count, expr-count, stmt-count, action-count, state-count}
 
 -- TABLES OF IMAGES
@@ -32,7 +32,7 @@ module _ {A : Type 0} (size : ℕ) (f : A → ℕ) (l : List A) (x : A) (h : len
   -- and one more in the count
   counted-more : set (set (pad 0 size (length l ∷ map f l)) (length l + 1) (f x)) 0 (length l + 1) ≡ pad 0 size (length (l ++ x ∷ []) ∷ map f (l ++ x ∷ []))
   counted-more =
-      ap (λ (t : List ℕ). set t 0 (length l + 1)) (image-more (length l)) ∙ front-set 0 size (length l) (length l + 1) (map f (l ++ x ∷ []))
+      ap (λ (t : List ℕ). set t 0 (length l + 1)) (image-more (length l)) ∙ pad-set 0 size (length l ∷ map f (l ++ x ∷ [])) 0 (length l + 1) (omega arith)
       ∙ ap (λ (n : ℕ). pad 0 size (n ∷ map f (l ++ x ∷ []))) (sym (length-append l (x ∷ [])))
 
 -- EVENTS
@@ -76,15 +76,15 @@ module _ {exprs : List ℕ} (h : ExprRoom exprs) where
       let xs = h .rows in
       rw (h .held, expr-count xs, flat-snoc exprRow xs e, q, length-append xs (e ∷ []))
       (ap (λ (l : List ℕ). set l 0 (length xs + 1)) (row-three 0 3075 (3 * (length xs + 1)) (length xs ∷ 0 ∷ 0 ∷ flat exprRow xs) (omega (arith, expr-rows xs)) k x y (omega arith))
-      ∙ front-set 0 3075 (length xs) (length xs + 1) _)
+      ∙ pad-set 0 3075 (length xs ∷ _) 0 (length xs + 1) (omega arith))
 
 -- STATEMENTS
 -- the rows with one more, whose first pair stands behind those of the others
-stmt-rows-snoc : (i : ℕ) (ss : List Stmt) (s : Stmt) → stmtRows i (ss ++ s ∷ []) ≡ stmtRows i ss ++ stmtRow (i + length (flat initsOf ss)) s
+stmt-rows-snoc : (i : ℕ) (ss : List Stmt) (s : Stmt) → stmtRows i (ss ++ s ∷ []) ≡ stmtRows i ss ++ stmtRow (i + length (flat initOf ss)) s
 stmt-rows-snoc i [] s = rw (add-zero i) (append-nil (stmtRow i s))
 stmt-rows-snoc i (t ∷ ss) s =
-    let e : i + length (initsOf t) + length (flat initsOf ss) ≡ i + length (initsOf t ++ flat initsOf ss) = simp length-append (omega arith) in
-    rw (stmt-rows-snoc (i + length (initsOf t)) ss s, e) (sym (append-assoc (stmtRow i t) (stmtRows (i + length (initsOf t)) ss) _))
+    let e : i + length (initOf t) + length (flat initOf ss) ≡ i + length (initOf t ++ flat initOf ss) = simp length-append (omega arith) in
+    rw (stmt-rows-snoc (i + length (initOf t)) ss s, e) (sym (append-assoc (stmtRow i t) (stmtRows (i + length (initOf t)) ss) _))
 
 module _ {stmts : List ℕ} (h : StmtRoom stmts) where
   -- fewer than the table has places for
@@ -92,7 +92,7 @@ module _ {stmts : List ℕ} (h : StmtRoom stmts) where
   stmt-room = rw (h .held) (omega (arith, stmt-count (h .rows)))
 
   -- one more
-  pub stmt-put : (s : Stmt) {k x y z n : ℕ} → stmtRow (length (flat initsOf (h .rows))) s ≡ k ∷ x ∷ y ∷ z ∷ n ∷ []
+  pub stmt-put : (s : Stmt) {k x y z n : ℕ} → stmtRow (length (flat initOf (h .rows))) s ≡ k ∷ x ∷ y ∷ z ∷ n ∷ []
       → set (set (set (set (set (set stmts (5 * (getD stmts 0 0 + 1)) k) (5 * (getD stmts 0 0 + 1) + 1) x) (5 * (getD stmts 0 0 + 1) + 2) y) (5 * (getD stmts 0 0 + 1) + 3) z) (5 * (getD stmts 0 0 + 1) + 4) n) 0 (getD stmts 0 0 + 1)
       ≡ stmtTable (h .rows ++ s ∷ [])
   unfolding stmtTable
@@ -100,7 +100,7 @@ module _ {stmts : List ℕ} (h : StmtRoom stmts) where
       let ss = h .rows in
       rw (h .held, stmt-count ss, stmt-rows-snoc 0 ss s, zero-add, q, length-append ss (s ∷ []))
       (ap (λ (l : List ℕ). set l 0 (length ss + 1)) (row-five 0 5125 (5 * (length ss + 1)) (length ss ∷ 0 ∷ 0 ∷ 0 ∷ 0 ∷ stmtRows 0 ss) (omega (arith, stmt-rows 0 ss)) k x y z n (omega arith))
-      ∙ front-set 0 5125 (length ss) (length ss + 1) _)
+      ∙ pad-set 0 5125 (length ss ∷ _) 0 (length ss + 1) (omega arith))
 
 -- ACTIONS
 module _ {kinds bodies : List ℕ} (h : ActionRoom kinds bodies) where

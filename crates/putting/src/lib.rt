@@ -10,8 +10,9 @@ ghost use Rattle.values.specs.declared.Ty.{Ty};
 ghost use Rattle.programs.specs.Sizes.{SPENT};
 ghost use Rattle.programs.specs.declared.Expr.{Expr};
 ghost use Rattle.programs.specs.Program.{Variable, Stmt, Action, State, Move};
+ghost use Rattle.soundness.specs.Asked.{initOf};
 ghost use Rattle.machines.specs.Config.{Choice};
-ghost use Rattle.tabled.specs.Tabled.{byteOf, wordOf, tyCode, eventTable, exprRow, exprTable, stmtRow, initsOf, stmtTable, stateKind, moveRow, moveTable, choiceTable};
+ghost use Rattle.tabled.specs.Tabled.{byteOf, wordOf, tyCode, eventTable, exprRow, exprTable, stmtRow, stmtTable, stateKind, moveRow, moveTable, choiceTable};
 ghost use Rattle.putting.specs.Asked.{EventRoom, VariableTables, VariableRoom, ExprRoom, StmtRoom, ActionTables, ActionRoom, StateTables, StateRoom, MoveRoom, ChoiceRoom};
 use tables::Program;
 
@@ -79,7 +80,7 @@ pub fn put_stmt(
     n: u16,
 )
     requires { ⌜ StmtRoom (now stmts) ⌝ }
-    ensures { λ _. ⌜ ((h : StmtRoom (now (stmts .entry))) (s : Stmt) → stmtRow (length (flat initsOf (h .rows))) s ≡ k ∷ x ∷ y ∷ z ∷ n ∷ []
+    ensures { λ _. ⌜ ((h : StmtRoom (now (stmts .entry))) (s : Stmt) → stmtRow (length (flat initOf (h .rows))) s ≡ k ∷ x ∷ y ∷ z ∷ n ∷ []
         → now (stmts .exit) ≡ stmtTable (h .rows ++ s ∷ [])) ⌝ }
 {
     let s = stmts[0] + 1;

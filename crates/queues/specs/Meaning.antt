@@ -3,7 +3,7 @@ use Prim.Native.Nat.{ℕ, zero, suc, _<_, suc-le-suc}
 use mathlib.Core.Path.{_≡_, refl, ap}
 use mathlib.Core.Option.{none, some, Option·map, Option·none-ne-some}
 use mathlib.Core.Bool.{Bool, true, false, cond}
-use mathlib.Core.List.{List, [], _∷_, _++_, map}
+use mathlib.Core.List.{List, [], _∷_, _++_, map, map-append}
 use native.Mathlib.Nat.{le-of-suc-le-suc, not-suc-le-zero, zero-lt-suc}
 use lib.Dec.{eqb, ltb}
 use lib.ListN.{length, getD, length-map}
@@ -38,10 +38,6 @@ waits-number x [] h k = refl
 waits-number x (y ∷ q) h k = rw (same-number x y h (k .0), waits-number x q h (k .1))
 
 -- the pairs of a list with one more at the end
-map-snoc : {A B : Type 0} (f : A → B) (l : List A) (x : A) → map f (l ++ x ∷ []) ≡ map f l ++ f x ∷ []
-map-snoc f [] x = refl
-map-snoc f (y ∷ l) x = ap (λ (t : List _). f y ∷ t) (map-snoc f l x)
-
 -- A PUT OF A NUMBER IS ⊙
 pub put-meets : (q : List ℕ) (x : ℕ) → All CanonicalPair q → CanonicalPair x → Option·map (map pairOf) (putNumber q x) ≡ put (map pairOf q) (pairOf x)
 unfolding putNumber
@@ -49,7 +45,7 @@ put-meets q x k h = rw (waits-number x q h k, length-map q pairOf) (go (waits (p
   where
     go : (a b : Bool) → Option·map (map pairOf) (cond a (some q) (cond b (some (q ++ x ∷ [])) none)) ≡ cond a (some (map pairOf q)) (cond b (some (map pairOf q ++ pairOf x ∷ [])) none)
     go true b = refl
-    go false true = ap some (map-snoc pairOf q x)
+    go false true = ap some (map-append pairOf q (x ∷ []))
     go false false = refl
 
 -- a put keeps the numbers canonical

@@ -9,7 +9,7 @@ ghost use Rattle.rows.specs.Part.{part};
 ghost use Rattle.queues.specs.Queues.{QueueOk, queueAt, putNumber, Put, Removed};
 
 // Whether x is one of the n numbers from place row on.
-fn holds(pairs: &[u64; Program::ROOMS * Program::QUEUE], row: usize, n: usize, x: u64) -> bool
+pub fn holds(pairs: &[u64; Program::ROOMS * Program::QUEUE], row: usize, n: usize, x: u64) -> bool
     requires { ⌜ (length (now pairs) ≡ 512) × (row + n ≤ 512) ⌝ }
     ensures { λ r. ⌜ r ≡ any (eqb x) (part row n (now (pairs .entry))) ⌝ }
 {

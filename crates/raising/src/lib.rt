@@ -7,6 +7,7 @@ use rules::Rule;
 use storing::number;
 use tables::Program;
 use tables::event_type;
+use tables::index;
 use values::Value;
 use values::suits;
 ghost use mathlib.Core.Path.{_≡_};
@@ -16,13 +17,6 @@ ghost use Rattle.raising.specs.Raising.{RaiseAsked};
 
 // Where an event begins in the number of a pair.
 const EVENT: u64 = 1099511627776;
-
-// A byte, as an index.
-fn wide(x: u8) -> usize
-    ensures { λ r. ⌜ r ≡ x ⌝ }
-{
-    x as usize
-}
 
 // The number of a pair: the event e with the value of number v.
 fn pair(e: u8, v: u64) -> u64
@@ -57,11 +51,11 @@ pub fn raise_on<'a>(
     ensures { λ r. ⌜ ((a : RaiseAsked (now (stmts .entry)) (now (exprs .entry)) (now (places .entry)) (now (says .entry)) (now (types .entry)) (now (kinds .entry)) (now (exits .entry)) (now (maps .entry)) (now (values .entry)) k b n e x w (now (counts .entry)) (now (parts .entry)) (now (held .entry))) → StoredLeft (a .test .row) w r (now (values .exit)) (now (counts .exit)) (now (parts .exit)) (now (held .exit))) ⌝ }
 {
     let v = number(exprs, places, values, k, x, w);
-    let t = event_type(types, wide(e));
+    let t = event_type(types, index(e));
     if !suits(t, codes::value_of(v)) {
         return Outcome::Refused(Answer::WrongType);
     }
-    let s = exit_or_skip(says, kinds, exits, maps, b, n, wide(e));
+    let s = exit_or_skip(says, kinds, exits, maps, b, n, index(e));
     let at = k * (Program::VARIABLES + 3);
     values[at + 17] = codes::code(Value::Event(e));
     values[at + 18] = v;

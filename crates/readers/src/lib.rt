@@ -1,7 +1,7 @@
 // The reader over the lent text: a struct of the text and a position, which hands out each value as the part of the text that it occupies. What a
 // value is stands in specs/Words.antt.
 ghost use mathlib.Core.Path.{_≡_};
-ghost use Prim.Native.Nat.{ℕ, _+_};
+ghost use Prim.Native.Nat.{_+_};
 ghost use lib.ListN.{length, drop};
 ghost use Rattle.readers.specs.Words.{word};
 
@@ -49,13 +49,6 @@ pub fn value<'a>(r: LineReader<'a>) -> &'a [u8]
     ensures { λ v. ⌜ now v ≡ word (drop (r .entry .at) (now (r .entry .text))) ⌝ }
 {
     value_at(r.text, r.at)
-}
-
-// The place behind it.
-pub fn past<'a>(r: LineReader<'a>) -> usize
-    ensures { λ n. ⌜ n ≡ r .entry .at + length (word (drop (r .entry .at) (now (r .entry .text)))) ⌝ }
-{
-    word_end(r.text, r.at)
 }
 
 // The value at a place, by the reader.

@@ -6,28 +6,24 @@ use mathlib.Core.Bool.{Bool, true, false, cond}
 use mathlib.Core.List.{List, [], _∷_, _++_, reverse}
 use native.Mathlib.Omega.{arith}
 use lib.ListN.{length, length-append}
-use Rattle.lists.specs.Lists.{onOpt, total, flat}
+use Rattle.lists.specs.Lists.{onOpt, flat}
 use Rattle.answers.specs.declared.Answer.the-variants.{NotInForm, OutOfRange}
 use Rattle.programs.specs.Sizes.{TEXT}
 use Rattle.programs.specs.Program.{Program}
+use Rattle.soundness.specs.Asked.{initOf}
 use Rattle.machines.specs.Config.{Choice}
 use Rattle.tables.specs.Decode.{MOVES, PAIRS}
 use Rattle.texts.specs.Bytes.{LF, split}
 use Rattle.texts.specs.Forms.{Said, said}
 use Rattle.texts.specs.Reading.{Tables, tables, nothing, put, kind, ordered, ranged, Result, loaded, refused, whole, reading}
-use Rattle.tabled.specs.Tabled.{initsOf}
-use Rattle.numerals.specs.Splits.{split-total}
+use Rattle.numerals.specs.Splits.{bytesOf, split-total}
 use Rattle.lengths.specs.Lengths.{said-bytes}
 use Rattle.reading.specs.Order.{Weighs, weighs-none, weighs-more}
-
--- the bytes of lines, with their ends
-abbrev bytesOf : List (List ℕ) → ℕ
-bytesOf ls = total (λ l. length l + 1) ls
 
 -- n bytes are enough for what is loaded
 abbrev Enough : ℕ → Result → Type 0
 Enough n (refused b k) = Unit {0}
-Enough n (loaded p c) = (16 * (length (p .steps) + (length (p .calls) + length (p .acts))) ≤ n) × (4 * length (flat initsOf (p .stmts)) ≤ n)
+Enough n (loaded p c) = (16 * (length (p .steps) + (length (p .calls) + length (p .acts))) ≤ n) × (4 * length (flat initOf (p .stmts)) ≤ n)
 
 -- both sides of a test
 either : (n : ℕ) (b : Bool) (x y : Result) → Enough n x → Enough n y → Enough n (cond b x y)
@@ -59,7 +55,7 @@ reading-enough n last a k m (l ∷ x ∷ ls) w h = go (said l) refl (λ j t q r.
 
 -- THE law: the moves and the pairs of a text that is not too long have their places.
 pub text-bounded : (t : List ℕ) (p : Program) (c : List Choice) → length t ≤ TEXT → reading 0 nothing 1 (split LF t) ≡ loaded p c
-    → (length (p .steps) + (length (p .calls) + length (p .acts)) ≤ MOVES) × (length (flat initsOf (p .stmts)) ≤ PAIRS)
+    → (length (p .steps) + (length (p .calls) + length (p .acts)) ≤ MOVES) × (length (flat initOf (p .stmts)) ≤ PAIRS)
 text-bounded t p c h e =
     let q : Enough (length t + 1) (loaded p c) = rw e at (reading-enough 0 0 nothing 1 (length t + 1) (split LF t) weighs-none (omega (arith, split-total LF t))) in
     (omega (arith, q .0), omega (arith, q .1))

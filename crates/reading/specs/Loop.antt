@@ -1,5 +1,5 @@
 -- THE LOOP over the lines: what is asked before a line, what comes of it, and what comes of them all.
-use Prim.Native.Nat.{ℕ, _+_, _-_, _≤_, _<_}
+use Prim.Native.Nat.{ℕ, _+_, _≤_, _<_}
 use mathlib.Core.Path.{_≡_}
 use mathlib.Core.Logic.{dite}
 use mathlib.Core.Bool.{true}

@@ -10,18 +10,18 @@ use lib.ListN.{length, length-append, length-reverse}
 use Rattle.lists.specs.Lists.{flat}
 use Rattle.lists.specs.Keep.{flat-snoc}
 use Rattle.programs.specs.Program.{Stmt, Move}
+use Rattle.soundness.specs.Asked.{initOf}
 use Rattle.texts.specs.Forms.{Said, eventLine, machineLine, varLine, exprLine, stmtLine, actionLine, stateLine, stepLine, callLine, actLine, startLine, choiceLine}
-use Rattle.texts.specs.Reading.{Tables, tables, nothing, put, kind, ordered}
-use Rattle.tabled.specs.Tabled.{initsOf}
+use Rattle.texts.specs.Reading.{Tables, tables, nothing, put, kind, ordered, startsOf}
 use Rattle.lengths.specs.Counted.{movesIn, pairsIn}
-use Rattle.gathering.specs.Gathered.{variableLines, stmtLines, callLines, actLines, startLines, moveLines}
+use Rattle.gathering.specs.Gathered.{variableLines, stmtLines, callLines, actLines, moveLines}
 
 -- NOTHING OF A LATER KIND than the last line's is there yet
 pub record Later (last : ℕ) (a : Tables) : Type 0 where
   pub vars : last < 3 → variableLines a ≡ []
   pub calls : last < 9 → callLines a ≡ []
   pub acts : last < 10 → actLines a ≡ []
-  pub starts : last < 11 → startLines a ≡ []
+  pub starts : last < 11 → startsOf a ≡ []
 
 -- before the first line
 pub later-none : Later 0 nothing
@@ -46,7 +46,7 @@ later-more last (tables es ms vs xs ss acs ns ts cs ds ks hs) (choiceLine c) o l
 -- THE TEXT'S FIRST n BYTES are enough for the moves, pairs and variables so far: a move takes 16 of them, a pair 4, any line 1
 pub record Weighs (a : Tables) (n : ℕ) : Type 0 where
   pub moves : 16 * length (moveLines a) ≤ n
-  pub pairs : 4 * length (flat initsOf (stmtLines a)) ≤ n
+  pub pairs : 4 * length (flat initOf (stmtLines a)) ≤ n
   pub vars : length (variableLines a) ≤ n
 
 -- before the first line
@@ -65,7 +65,7 @@ weighs-more (tables es ms vs xs ss acs ns ts cs ds ks hs) (varLine i v) n m w l 
 weighs-more (tables es ms vs xs ss acs ns ts cs ds ks hs) (exprLine i b e) n m w l h p = record { moves = omega (arith, w .moves); pairs = omega (arith, w .pairs); vars = omega (arith, w .vars) }
 weighs-more (tables es ms vs xs ss acs ns ts cs ds ks hs) (stmtLine i s) n m w l h p = record {
   moves = omega (arith, w .moves);
-  pairs = omega (arith, w .pairs, ap (λ (l : List Stmt). length (flat initsOf l)) (reverse-cons s ss), ap length (flat-snoc initsOf (reverse ss) s), length-append (flat initsOf (reverse ss)) (initsOf s));
+  pairs = omega (arith, w .pairs, ap (λ (l : List Stmt). length (flat initOf l)) (reverse-cons s ss), ap length (flat-snoc initOf (reverse ss) s), length-append (flat initOf (reverse ss)) (initOf s));
   vars = omega (arith, w .vars);
 }
 weighs-more (tables es ms vs xs ss acs ns ts cs ds ks hs) (actionLine i c) n m w l h p = record { moves = omega (arith, w .moves); pairs = omega (arith, w .pairs); vars = omega (arith, w .vars) }

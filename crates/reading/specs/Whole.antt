@@ -8,8 +8,7 @@ use Rattle.answers.specs.declared.Answer.{Answer}
 use Rattle.answers.specs.declared.Answer.the-variants.{NotInForm}
 use Rattle.programs.specs.Sizes.{TEXT}
 use Rattle.texts.specs.Bytes.{LF, split}
-use Rattle.texts.specs.Reading.{Tables, tables, nothing, refused, whole, reading}
-use Rattle.gathering.specs.Gathered.{startLines}
+use Rattle.texts.specs.Reading.{Tables, tables, nothing, refused, whole, reading, startsOf}
 use Rattle.taking_lines.specs.Gathered.{startWord}
 use Rattle.taking_lines.specs.Asked.{Gathered}
 use Rattle.reading.specs.declared.Turn.{Turn}
@@ -93,7 +92,7 @@ module _ {types owners holds rooms exprs : List ℕ} {kinds variables absent : �
     pub reading-startless : length s ≤ i → start ≡ 0 → reading 0 nothing 1 (split LF s) ≡ refused NotInForm n
     reading-startless l z = h .same ∙ read-end s last (h .lines) n i l ∙ go (h .lines) (sym (h .gathered .back .started) ∙ z)
       where
-        go : (a : Tables) → startWord (startLines a) ≡ 0 → whole a n ≡ refused NotInForm n
+        go : (a : Tables) → startWord (startsOf a) ≡ 0 → whole a n ≡ refused NotInForm n
         go (tables es ms vs xs ss acs ns ts cs ds [] hs) e = refl
         go (tables es ms vs xs ss acs ns ts cs ds (k ∷ ks) hs) e = absurd (omega arith)
 

@@ -1,12 +1,12 @@
 -- The events that a state defers are there exactly where no flag behind the last event is set.
-use Prim.Native.Nat.{ℕ, zero, suc, _+_, _≤_, _<_}
+use Prim.Native.Nat.{ℕ, _+_, _≤_, _<_}
 use mathlib.Core.Path.{_≡_, sym, _∙_}
 use mathlib.Core.Bool.{true, false, true≢false}
 use mathlib.Core.Logic.{⊎-elim, dite}
 use mathlib.Core.List.{List}
 use native.Mathlib.Decide.{ℕ-discrete}
 use native.Mathlib.Omega.{arith}
-use Rattle.lists.specs.Lists.{All, There}
+use Rattle.lists.specs.Lists.{There}
 use Rattle.lists.specs.Facts.{All-has, All-zip}
 use Rattle.lists.specs.Keep.{All-keep, All-kept}
 use Rattle.lists.specs.Check.{within, each, each-all, all-each}
@@ -14,14 +14,9 @@ use Rattle.rows.specs.Pad.{below?}
 use Rattle.rows.specs.Seek.{table}
 use Rattle.programs.specs.Sizes.{EVENTS}
 use Rattle.tables.specs.Decode.{flag, deferOf}
+use Rattle.tables.specs.Numbered.{table-all}
 use Rattle.tables.specs.Tables.{deferred-flag}
 use Rattle.faults.specs.Each.{fails}
-
--- what holds of each number from k on holds of a table of them
-numbers-all : (P : ℕ → Type 0) (k n : ℕ) → ((i : ℕ) → k ≤ i → i < k + n → P i) → All P (table (λ i. i) k n)
-unfolding table
-numbers-all P k zero h = tt
-numbers-all P k (suc n) h = (h k (omega arith) (omega arith), numbers-all P (k + 1) n (λ i a b. h i (omega arith) (omega arith)))
 
 module _ (flags : List ℕ) (n events : ℕ) where
   -- no event that is not there has its flag set: what a loop over the flags keeps, up to event e
@@ -37,7 +32,7 @@ module _ (flags : List ℕ) (n events : ℕ) where
   unfolding deferOf
   defer-passes h = each (within events) (deferOf flags n) .tells .test (all-each (within events) (deferOf flags n)
       (All-zip (λ e. flag flags n e ≡ true) (There EVENTS) (There events) (deferOf flags n) inside (All-kept (flag flags n) (table (λ i. i) 1 EVENTS))
-      (All-keep (There EVENTS) (flag flags n) (table (λ i. i) 1 EVENTS) (numbers-all (There EVENTS) 1 EVENTS (λ i a b. (a, omega arith))))))
+      (All-keep (There EVENTS) (flag flags n) (table (λ i. i) 1 EVENTS) (table-all (There EVENTS) (λ i. i) 1 EVENTS (λ i a b. (a, omega arith))))))
     where
       inside : (e : ℕ) → flag flags n e ≡ true → There EVENTS e → There events e
       inside e f t = (t .0, ⊎-elim (λ (k : e < events + 1). omega arith) (λ (k : events + 1 ≤ e). absurd (true≢false (sym f ∙ h e (omega arith) (t .1)))) (below? e (events + 1)))

@@ -16,12 +16,9 @@ use faults::Counts;
 use faults::count_rows;
 use faults::joined;
 use faults::onward;
-use faults::row_after;
-use faults::rows_from;
 use naming::both;
 use naming::exprs_refer;
 use naming::stmts_refer;
-use naming::there;
 use naming::variables_refer;
 use tables::Program;
 use tables::action_count;
@@ -29,8 +26,11 @@ use tables::action_kind;
 use tables::body_of;
 use tables::entry_of;
 use tables::exit_of;
+use tables::row_after;
+use tables::rows_from;
 use tables::state_count;
 use tables::state_kind;
+use tables::there;
 
 // The first faulty row of the actions: each is of a kind that is there, and its statement is there. Linear in the actions.
 fn actions_refer<'a>(

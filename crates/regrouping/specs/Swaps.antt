@@ -2,14 +2,14 @@
 use Prim.Native.Nat.{ℕ, zero, suc, _≤_}
 use mathlib.Core.Path.{_≡_, refl, sym, ap, _∙_}
 use mathlib.Core.Logic.{_≢_, _⊎_, inl, inr}
-use mathlib.Core.Bool.{Bool, true, false, not, cond}
+use mathlib.Core.Bool.{Bool, true, false, not, cond, Bool·not-not}
 use mathlib.Core.List.{List, [], _∷_, _++_, append-assoc, append-nil, List·Permᴰ, List·Permᴰ·cons, List·Permᴰ·swap, List·Permᴰ·trans, Permᴰ·refl}
 use native.Mathlib.Omega.{arith}
 use lib.ListN.{length}
 use borrow.Author.Tests.{eqb-true}
 use lib.Dec.{eqb}
 use Rattle.lists.specs.Lists.{push, keep, All}
-use Rattle.lists.specs.Facts.{not-not, All-append, All-map}
+use Rattle.lists.specs.Facts.{All-append, All-map}
 use Rattle.lists.specs.Keep.{All-keep, All-kept, All-both}
 use Rattle.regrouping.specs.Regrouped.{mine, others, least, tails, weave}
 use Rattle.regrouping.specs.Tails.{mine-own, others-own, absent, least-is, others-shorter, tails-all}
@@ -64,7 +64,7 @@ module _ {E : Type 0} (own : E → ℕ) where
 
     -- the others first, then machine k's
     part-last : (k : ℕ) (l : List E) → All (λ y. meet y ≡ false) l → Swaps meet l (others own k l ++ mine own k l)
-    part-last k l h = simp not-not at (part (λ n. not (eqb n k)) l h)
+    part-last k l h = simp Bool·not-not at (part (λ n. not (eqb n k)) l h)
 
     -- private entries, machine by machine
     swaps-tails : (n : ℕ) (u : List E) → length u ≤ n → All (λ y. meet y ≡ false) u → Swaps meet u (tails own n u)

@@ -5,11 +5,11 @@ use mathlib.Core.Logic.{_≢_}
 use mathlib.Core.Bool.{Bool, true, false, not}
 use mathlib.Core.List.{List, [], _∷_, _++_}
 use native.Mathlib.Omega.{arith, min-cases}
-use borrow.Author.Tests.{eqb-true, eqb-false, ne-eqb}
+use borrow.Author.Tests.{eqb-true, eqb-false, ne-eqb, not-true}
 use lib.Dec.{eqb}
 use lib.ListN.{length}
 use Rattle.lists.specs.Lists.{push, All}
-use Rattle.lists.specs.Facts.{eqb-same, not-true, All-append, All-map}
+use Rattle.lists.specs.Facts.{eqb-same, All-append, All-map}
 use Rattle.lists.specs.Keep.{All-keep, All-kept, keep-none, keep-length}
 use Rattle.regrouping.specs.Regrouped.{mine, others, least, tails, byNumber}
 

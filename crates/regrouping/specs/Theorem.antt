@@ -4,7 +4,7 @@ use mathlib.Core.Path.{_≡_, refl, sym, ap, _∙_}
 use mathlib.Core.Logic.{_≢_, _⊎_, inl, inr}
 use mathlib.Core.Option.{Option, none, some, Option·map, Option·none-ne-some}
 use mathlib.Core.Bool.{Bool, true, false}
-use mathlib.Core.List.{List, [], _∷_, _++_, Permᴰ·refl, Permᴰ·map, cons-ne-nil}
+use mathlib.Core.List.{List, [], _∷_, _++_, Permᴰ·refl, Permᴰ·map, cons-ne-nil, map-append}
 use native.Mathlib.Omega.{arith}
 use lib.Dec.{eqb}
 use lib.ListN.{length, length-append}
@@ -14,7 +14,7 @@ use Rattle.runs.specs.Outcome.{Out, took, refused, onOut}
 use Rattle.runs.specs.Run.{Ended, later, run, Stepped}
 use Rattle.lists.specs.Lists.{keep}
 use Rattle.lists.specs.Keep.{keep-map}
-use Rattle.lists.specs.Ends.{initOf, lastOf, init-last, butLast, last-snoc, before-end, map-append, map-split}
+use Rattle.lists.specs.Ends.{initOf, lastOf, init-last, butLast, last-snoc, before-end, map-split}
 use Rattle.regrouping.specs.Regrouped.{tails, weave, regrouped}
 use Rattle.regrouping.specs.Demand.{choices, ownE, meetE, label, regroup, MeetsAt, Regrouping}
 use Rattle.regrouping.specs.Swaps.{Swaps, Swaps.none as still, after, swap, andThen, swaps-weave, swaps-mine, swaps-perm, swaps-length, swaps-behind, Calm, Tidy, tidy-at, tidy-weave}

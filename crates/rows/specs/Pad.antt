@@ -7,7 +7,7 @@ use Prim.Native.Nat.{ℕ, suc, _+_, _-_, _≤_, _<_}
 use native.Mathlib.Omega.{arith}
 use native.Mathlib.Decide.{decLt}
 use lib.ListN.{length, take, drop, getD, set, replicate, length-append, length-take, length-drop, length-replicate, getD-replicate, List·getD-append, List·getD-eq-default, length-set}
-use lib.Seq.{ext-getD, getD-append-add, take-at, getD-set-same, getD-set-other, set-append-seam, append-snoc, getD-take, getD-drop, length-take-le}
+use lib.Seq.{ext-getD, getD-append-add, take-at, getD-set-same, getD-set-other, set-append-seam, append-snoc, getD-take, getD-drop, length-take-le, set-append-left}
 
 -- the two cases of an order
 pub below? : (i n : ℕ) → (i < n) ⊎ (n ≤ i)
@@ -29,6 +29,10 @@ module _ {A : Type 0} (z : A) where
   pub zeros-get : (n i : ℕ) → getD (replicate n z) i z ≡ z
   zeros-get n i = ⊎-elim (λ h. getD-replicate n i z z h) (λ h. List·getD-eq-default (replicate n z) z (rw length-replicate h)) (below? i n)
 
+  -- zeros in every place
+  pub zeros-replicate : (n : ℕ) (xs : List A) → length xs ≡ n → ((k : ℕ) → k < n → getD xs k z ≡ z) → xs ≡ replicate n z
+  zeros-replicate n xs e h = ext-getD z xs (replicate n z) (e ∙ sym (length-replicate n z)) (λ k b. h k (omega arith) ∙ sym (zeros-get n k))
+
   pub pad-get : (size : ℕ) (xs : List A) (i : ℕ) → getD (pad size xs) i z ≡ getD xs i z
   unfolding pad
   pad-get size xs i = ⊎-elim
@@ -42,6 +46,11 @@ module _ {A : Type 0} (z : A) where
   -- a row is known by its length and its elements
   pub pad-ext : (size : ℕ) (l xs : List A) → length l ≡ size → length xs ≤ size → ((i : ℕ) → i < size → getD l i z ≡ getD xs i z) → l ≡ pad size xs
   pad-ext size l xs e h f = ext-getD z l (pad size xs) (e ∙ sym (pad-length size xs h)) (λ i hi. f i (omega arith) ∙ sym (pad-get size xs i))
+
+  -- another element
+  pub pad-set : (size : ℕ) (xs : List A) (i : ℕ) (a : A) → i < length xs → set (pad size xs) i a ≡ pad size (set xs i a)
+  unfolding pad
+  pad-set size xs i a h = set-append-left xs (replicate (size - length xs) z) i a h ∙ ap (λ (n : ℕ). set xs i a ++ replicate (size - n) z) (sym (length-set xs i a))
 
   -- one more at the end
   pub pad-snoc : (size : ℕ) (xs : List A) (a : A) → length xs < size → set (pad size xs) (length xs) a ≡ pad size (xs ++ (a ∷ []))

@@ -1,14 +1,14 @@
 -- A part of a flat list: the w elements from place b on; and the list with the part from b on replaced by r.
 -- Row i of width w is the part at b = i * w. Everything that a loop does in a row is `put b (what the row is) xs`.
 use mathlib.Core.Path.{_≡_, refl, ap, sym, _∙_, subst}
-use mathlib.Core.List.{List, _++_}
+use mathlib.Core.List.{List, _++_, append-nil}
 use mathlib.Core.Logic.{_⊎_, inl, inr, ⊎-elim, dite}
 use Prim.Native.Nat.{ℕ, _+_, _-_, _*_, _≤_, _<_}
 use native.Mathlib.Omega.{arith}
 use native.Mathlib.Decide.{ℕ-discrete}
-use native.Mathlib.Nat.{mul-le-mul-right, suc-mul}
+use native.Mathlib.Nat.{mul-le-mul-right, suc-mul, zero-add}
 use lib.ListN.{length, take, drop, getD, set, length-append, length-take, length-drop, length-set, List·getD-append}
-use lib.Seq.{ext-getD, getD-append-add, getD-set-same, getD-set-other, getD-take, getD-drop, length-take-le, take-take}
+use lib.Seq.{ext-getD, getD-append-add, getD-set-same, getD-set-other, getD-take, getD-drop, length-take-le, take-take, drop-length}
 use Rattle.rows.specs.Pad.{below?}
 
 -- k is outside the n places from b on
@@ -21,6 +21,13 @@ apart w i j n = ⊎-elim
     (λ (h : j < i). inl (omega (arith, mul-le-mul-right w h, suc-mul j w)))
     (λ (h : i ≤ j). let q : i < j = omega arith in inr (omega (arith, mul-le-mul-right w q, suc-mul i w)))
     (below? j i)
+
+-- so a place is in one row only
+pub one-row : (w i j x y : ℕ) → x < w → y < w → i * w + x ≡ j * w + y → i ≡ j
+one-row w i j x y a b e = dite (ℕ-discrete i j) (λ q. q) (λ q. absurd (⊎-elim
+    (λ (h : i * w + w ≤ j * w). omega arith)
+    (λ (h : j * w + w ≤ i * w). omega arith)
+    (apart w j i q)))
 
 -- row i lies within the n rows
 pub within : (w n i : ℕ) → i < n → i * w + w ≤ n * w
@@ -42,6 +49,11 @@ module _ {A : Type 0} where
 
   unfoldable pub put : ℕ → List A → List A → List A
   put b r xs = (take b xs ++ r) ++ drop (b + length r) xs
+
+  -- a list stored over the whole of another
+  pub put-over : (r xs : List A) → length r ≡ length xs → put 0 r xs ≡ r
+  unfolding put
+  put-over r xs e = rw (zero-add (length r), e, drop-length xs) (append-nil r)
 
   pub part-length : (b w : ℕ) (xs : List A) → b + w ≤ length xs → length (part b w xs) ≡ w
   unfolding part

@@ -1,4 +1,5 @@
 -- What is handed in, laid into the flat arrays, tested and run: that what comes out is the run of what is handed in.
+use borrow.Author.Tests.{not-true}
 use Prim.Native.Nat.{ℕ, _≤_, _<_}
 use mathlib.Core.Path.{_≡_, refl, ap, sym, _∙_, subst}
 use mathlib.Core.Bool.{Bool, true, false, not, cond}
@@ -6,7 +7,6 @@ use mathlib.Core.List.{List, [], map}
 use lib.Dec.{leb}
 use lib.ListN.{length, take, length-map}
 use lib.Seq.{take-length}
-use Rattle.lists.specs.Facts.{not-true}
 use Rattle.lists.specs.Tells.{Tells, refuted, denied, agree}
 use Rattle.answers.specs.declared.Answer.{Answer}
 use Rattle.answers.specs.declared.Answer.the-variants.{OutOfRange, NotAccepted}

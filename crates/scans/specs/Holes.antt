@@ -2,19 +2,14 @@
 use Prim.Native.Nat.{ℕ, _+_}
 use mathlib.Core.Path.{_≡_, refl}
 use mathlib.Core.Option.{Option, none, some}
-use mathlib.Core.Bool.{Bool, true, false}
+use mathlib.Core.Bool.{Bool, true}
 use mathlib.Core.List.{List, [], _∷_}
-use native.Mathlib.Omega.{arith}
 use borrow.Author.Tests.{ne-eqb, eqb-true}
 use lib.Dec.{eqb}
-use lib.IntN.{ℤ}
 use lib.ListN.{length, drop}
 use Rattle.lists.specs.Lists.{isSome}
 use Rattle.texts.specs.Forms.{Val, aNumber, anInteger, aList, somePairs, one, valueOf}
 use Rattle.texts.specs.Numbers.{decimal, signed, numbers, pairs}
-use Rattle.numerals.specs.Numerals.{capped, cappedInt}
-use Rattle.numerals.specs.declared.Numeral.the-variants.{Not as noNumber, Number as number}
-use Rattle.numerals.specs.declared.Integer.the-variants.{Not as noInteger, Is as integer}
 use Rattle.readers.specs.Words.{word}
 use Rattle.shapes.specs.Reads.{hole}
 use Rattle.scans.specs.declared.Taken.{Taken}
@@ -59,26 +54,6 @@ hole-list c e = rw e
 -- and '%' alone of the others
 pub hole-pairs : (c : ℕ) (r : Bool) → (c ≡ 35 → ⊥) → (c ≡ 126 → ⊥) → (c ≡ 64 → ⊥) → r ≡ eqb c 37 → r ≡ hole c
 hole-pairs c r x y z e = rw (ne-eqb c 35 x, ne-eqb c 126 y, ne-eqb c 64 z) e
-
--- a number of the code is there where the text's is
-pub number-some : (o : Option ℕ) (n : ℕ) → capped o ≡ number n → true ≡ isSome o
-number-some none n e = absurd (let z : _≡_ {A = ℕ} 0 1 = cc in omega arith)
-number-some (some m) n e = refl
-
--- and absent where it is
-pub number-none : (o : Option ℕ) → capped o ≡ noNumber → false ≡ isSome o
-number-none none e = refl
-number-none (some m) e = absurd (let z : _≡_ {A = ℕ} 0 1 = cc in omega arith)
-
--- the same of an integer
-pub integer-some : (o : Option ℤ) (n : ℤ) → cappedInt o ≡ integer n → true ≡ isSome o
-integer-some none n e = absurd (let z : _≡_ {A = ℕ} 0 1 = cc in omega arith)
-integer-some (some m) n e = refl
-
--- and its absence
-pub integer-none : (o : Option ℤ) → cappedInt o ≡ noInteger → false ≡ isSome o
-integer-none none e = refl
-integer-none (some m) e = absurd (let z : _≡_ {A = ℕ} 0 1 = cc in omega arith)
 
 -- the parts of what is known of a word
 pub taken-is : (c : ℕ) (s : List ℕ) (at : ℕ) (d : List ℕ) (ok : Bool) → d ≡ word (drop at s) → ok ≡ isSome (valueOf (c ∷ []) d)

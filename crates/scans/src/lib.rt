@@ -5,7 +5,7 @@ use numerals::Numeral;
 ghost use mathlib.Core.Path.{_≡_};
 ghost use mathlib.Core.Bool.{true};
 ghost use mathlib.Core.Option.{none};
-ghost use mathlib.Core.List.{List, [], _∷_};
+ghost use mathlib.Core.List.{[], _∷_};
 ghost use lib.ListN.{drop};
 ghost use Rattle.lists.specs.Lists.{isSome};
 ghost use Rattle.texts.specs.Forms.{valueOf};

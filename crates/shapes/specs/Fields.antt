@@ -5,7 +5,8 @@ use mathlib.Core.Option.{Option, none, some}
 use mathlib.Core.Bool.{Bool, true, false, cond, _&&_}
 use mathlib.Core.List.{List, [], _∷_, map}
 use lib.Dec.{eqb}
-use Rattle.texts.specs.Bytes.{same, split}
+use Rattle.lists.specs.Lists.{same}
+use Rattle.texts.specs.Bytes.{split}
 use Rattle.texts.specs.Forms.{Val, valueOf, fieldOf, fields, valuesOf}
 use Rattle.numerals.specs.Splits.{among, split-last}
 use Rattle.shapes.specs.Parts.{till, later, split-parts, later-some}

@@ -2,16 +2,15 @@
 use Prim.Native.Nat.{ℕ}
 use mathlib.Core.Path.{_≡_, refl, ap, sym, _∙_}
 use mathlib.Core.Option.{Option, none, some}
-use mathlib.Core.Bool.{Bool, true, false, not, cond, _&&_, _||_}
+use mathlib.Core.Bool.{Bool, true, false, not, cond, _&&_, _||_, true≢false}
 use mathlib.Core.List.{List, [], _∷_}
 use borrow.Author.Tests.{eqb-true, eqb-false, eq-eqb, ne-eqb, not-true}
 use lib.Dec.{eqb}
+use Rattle.lists.specs.Lists.{same}
 use Rattle.lists.specs.Facts.{and-parts, or-none}
-use Rattle.texts.specs.Bytes.{same}
 use Rattle.texts.specs.Forms.{Val, valueOf, fieldOf, fields, valuesOf}
 use Rattle.numerals.specs.Splits.{among, split-last}
 use Rattle.shapes.specs.Parts.{till, later, split-parts}
-use Rattle.shapes.specs.Unequal.{clash}
 use Rattle.shapes.specs.Reads.{hole, after, joined, reads, Place, key, value, word, end, plain, formed}
 use Rattle.shapes.specs.Fields.{tails, first, keyed, fields-first, values-keyed, first-on, first-equals, tails-on, first-space, tails-space, field-early, field-late, field-on, field-value, joined-nil, joined-cond}
 
@@ -161,7 +160,7 @@ hole-other : (c x : ℕ) → hole x ≡ false → hole c ≡ true → eqb c x �
 hole-other c x n h = go (eqb c x) refl
   where
     go : (y : Bool) → eqb c x ≡ y → y ≡ false
-    go true e = clash (sym h ∙ ap hole (eqb-true c x e) ∙ n)
+    go true e = absurd (true≢false (sym h ∙ ap hole (eqb-true c x e) ∙ n))
     go false e = refl
 
 -- behind a hole the value ends
@@ -185,7 +184,7 @@ word-lone (c ∷ t) h = go (eqb c 32) refl h (word-lone t)
 -- a value has none
 value-lone : (t : List ℕ) → formed value t ≡ true → among 61 (till 32 t) ≡ false
 unfolding formed
-value-lone [] h = clash (sym h)
+value-lone [] h = absurd (true≢false (sym h))
 value-lone (c ∷ t) h = go (hole c) refl h
   where
     go : (x : Bool) → hole c ≡ x → cond x (formed end t) (plain c && formed word t) ≡ true → among 61 (till 32 (c ∷ t)) ≡ false
@@ -226,13 +225,13 @@ value-plain c t p k l =
 -- at every place
 tells : (m : Place) (t : List ℕ) → formed m t ≡ true → Tells m t
 unfolding formed
-tells key [] h = clash (sym h)
+tells key [] h = absurd (true≢false (sym h))
 tells key (c ∷ t) h = go (eqb c 61) refl h (tells value t) (tells key t)
   where
     go : (x : Bool) → eqb c 61 ≡ x → cond x (formed value t) (plain c && formed key t) ≡ true → (formed value t ≡ true → Tells value t) → (formed key t ≡ true → Tells key t) → Tells key (c ∷ t)
     go true e h v k = equals-on c t e (value-lone t h) (v h)
     go false e h v k = let p = and-parts (plain c) (formed key t) h in key-on c t (is-plain c (p .0)) (k (p .1))
-tells value [] h = clash (sym h)
+tells value [] h = absurd (true≢false (sym h))
 tells value (c ∷ t) h = go (hole c) refl h (tells end t) (tells word t)
   where
     go : (x : Bool) → hole c ≡ x → cond x (formed end t) (plain c && formed word t) ≡ true → (formed end t ≡ true → Tells end t) → (formed word t ≡ true → Tells word t) → Tells value (c ∷ t)

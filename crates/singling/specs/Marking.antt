@@ -12,11 +12,9 @@ use lib.ListN.{length, getD, set, length-set}
 use lib.Seq.{getD-set-same, getD-set-other}
 use Rattle.lists.specs.Lists.{any}
 use Rattle.lists.specs.Facts.{and-both, any-last}
+use Rattle.rows.specs.Part.{one-row}
 use Rattle.programs.specs.Program.{Move}
-
--- both are for one state and event
-abbrev pub same : Move → Move → Bool
-same t u = eqb (t .from) (u .from) && eqb (t .on) (u .on)
+use Rattle.soundness.specs.Asked.{alike}
 
 -- the move's state and event have a flag
 abbrev pub Low : Move → Type 0
@@ -37,7 +35,7 @@ low-is t h = and-both (leb (t .from) 64) (leb (t .on) 64) (le-leb (t .from) 64 (
 -- a flag is 1 exactly where one of the moves is for its state and event
 pub record Marked (l : List Move) (seen : List ℕ) : Type 0 where
   pub size : length seen ≡ 4225
-  pub flags : (t : Move) → Low t → getD seen (spot t) 0 ≡ cond (any (same t) l) 1 0
+  pub flags : (t : Move) → Low t → getD seen (spot t) 0 ≡ cond (any (alike t) l) 1 0
 
 -- none is marked
 pub marked-none : (seen : List ℕ) → length seen ≡ 4225 → ((k : ℕ) → getD seen k 0 ≡ 0) → Marked [] seen
@@ -45,20 +43,17 @@ marked-none seen e h = record { size = e; flags = λ t b. h (spot t) }
 
 -- a flag is one state's and one event's
 same-spot : (t u : Move) → t .on ≤ 64 → u .on ≤ 64 → spot t ≡ spot u → (t .from ≡ u .from) × (t .on ≡ u .on)
-same-spot t u h k e =
-    let p : t .from ≤ u .from = omega arith in
-    let q : u .from ≤ t .from = omega arith in
-    (omega arith, omega arith)
+same-spot t u h k e = let p = one-row 65 (t .from) (u .from) (t .on) (u .on) (omega arith) (omega arith) e in (p, omega arith)
 
 -- two moves whose flags stand apart are not for one state and event
-spot-apart : (t u : Move) → (spot t ≡ spot u → ⊥) → same t u ≡ false
+spot-apart : (t u : Move) → (spot t ≡ spot u → ⊥) → alike t u ≡ false
 spot-apart t u n = dite (ℕ-discrete (t .from) (u .from))
     (λ p. rw (eq-eqb (t .from) (u .from) p) (ne-eqb (t .on) (u .on) (λ q. n (rw (p, q)))))
     (λ p. rw (ne-eqb (t .from) (u .from) p))
 
 -- 1 where one of the moves l is for t's state and event, else 0; and 0 of a move that has no flag
 abbrev pub again : List Move → Move → ℕ
-again l t = cond (low t && any (same t) l) 1 0
+again l t = cond (low t && any (alike t) l) 1 0
 
 -- t marked behind the moves l: whether one of them is for its state and event, and the flags with it
 pub record Marking (l : List Move) (t : Move) (r : ℕ) (seen : List ℕ) : Type 0 where
@@ -68,11 +63,11 @@ pub record Marking (l : List Move) (t : Move) (r : ℕ) (seen : List ℕ) : Type
 -- THE MOVE t MARKED
 module _ (l : List Move) (seen : List ℕ) (t : Move) (m : Marked l seen) where
   -- the flags with one more
-  with-flag : Low t → (u : Move) → Low u → getD (set seen (spot t) 1) (spot u) 0 ≡ cond (any (same u) (l ++ (t ∷ []))) 1 0
+  with-flag : Low t → (u : Move) → Low u → getD (set seen (spot t) 1) (spot u) 0 ≡ cond (any (alike u) (l ++ (t ∷ []))) 1 0
   with-flag h u b = dite (ℕ-discrete (spot u) (spot t))
       (λ q. let e = same-spot u t (b .1) (h .1) q in
-      rw (any-last (same u) l t, eq-eqb (u .from) (t .from) (e .0), eq-eqb (u .on) (t .on) (e .1), q) (getD-set-same seen (spot t) 1 0 (omega (arith, m .size, h .0, h .1))))
-      (λ q. rw (any-last (same u) l t, spot-apart u t q, getD-set-other seen (spot t) (spot u) 1 0 q) (m .flags u b))
+      rw (any-last (alike u) l t, eq-eqb (u .from) (t .from) (e .0), eq-eqb (u .on) (t .on) (e .1), q) (getD-set-same seen (spot t) 1 0 (omega (arith, m .size, h .0, h .1))))
+      (λ q. rw (any-last (alike u) l t, spot-apart u t q, getD-set-other seen (spot t) (spot u) 1 0 q) (m .flags u b))
 
   -- of a move that has a flag it is set,
   marked-low : Low t → Marked (l ++ (t ∷ [])) (set seen (spot t) 1)
@@ -84,15 +79,15 @@ module _ (l : List Move) (seen : List ℕ) (t : Move) (m : Marked l seen) where
 
   -- and where it was;
   pub marking-again : Low t → (getD seen (spot t) 0 ≡ 0 → ⊥) → Marking l t 1 (set seen (spot t) 1)
-  marking-again h n = record { was = rw (low-is t h) (go (any (same t) l) (m .flags t h)); marked = marked-low h }
+  marking-again h n = record { was = rw (low-is t h) (go (any (alike t) l) (m .flags t h)); marked = marked-low h }
     where
       go : (b : Bool) → getD seen (spot t) 0 ≡ cond b 1 0 → _≡_ {A = ℕ} 1 (cond b 1 0)
       go true e = refl
       go false e = absurd (n e)
 
   -- of a move that no move with a flag is like none is.
-  passed : ((u : Move) → Low u → same u t ≡ false) → Marked (l ++ (t ∷ [])) seen
-  passed f = record { size = m .size; flags = λ u b. rw (any-last (same u) l t, f u b) (m .flags u b) }
+  passed : ((u : Move) → Low u → alike u t ≡ false) → Marked (l ++ (t ∷ [])) seen
+  passed f = record { size = m .size; flags = λ u b. rw (any-last (alike u) l t, f u b) (m .flags u b) }
 
   -- Its state is too high,
   pub marking-high : 64 < t .from → Marking l t 0 seen

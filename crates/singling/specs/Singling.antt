@@ -11,7 +11,7 @@ use Rattle.lists.specs.Lists.{All, any}
 use Rattle.lists.specs.Check.{Check, isFalse}
 use Rattle.rows.specs.Seek.{table-get}
 use Rattle.programs.specs.Program.{Program, Move}
-use Rattle.soundness.specs.Asked.{refers, single}
+use Rattle.soundness.specs.Asked.{refers, alike, single}
 use Rattle.soundness.specs.Sound.{numbered, lines, firstFault, meets}
 use Rattle.soundness.specs.Lines.{numbered-all, step-meets, call-meets, act-meets}
 use Rattle.tables.specs.Decode.{moveIn, movesOf}
@@ -19,12 +19,12 @@ use Rattle.index.specs.Saying.{moves-cut}
 use Rattle.faults.specs.declared.Counts.{Counts}
 use Rattle.faults.specs.Faults.{onward, joined, rowFault, rows-more, at-place, movesFault, joined-none, joined-last, onward-onward, fault-nothing}
 use Rattle.faults.specs.Read.{Counted, Moving, noMove, states-fault-is, fault-is, moves-fault-is}
-use Rattle.singling.specs.Marking.{same, Low, low, low-is, Marked, Marking}
+use Rattle.singling.specs.Marking.{Low, low, low-is, Marked, Marking}
 
 -- ONE MOVE MORE
 -- what is asked of number n of the moves ms, behind the moves l: that none before it is for its state and event. (Of one that has no flag nothing is asked.)
 abbrev pub double : List Move → List Move → ℕ → Move → Check
-double l ms n t = isFalse (low t && any (same t) (l ++ take (n - 1) ms))
+double l ms n t = isFalse (low t && any (alike t) (l ++ take (n - 1) ms))
 
 -- the move in place i of those from row a on
 pub moves-get : (moves : List ℕ) (a n i : ℕ) → i < min n (4096 - a) → getD (movesOf moves a n) i noMove ≡ moveIn moves (a + i)
@@ -46,7 +46,7 @@ pub doubling-more : (l ms : List Move) (i first r next : ℕ) (seen after : List
 doubling-more l ms i first r next seen after h d m j =
     let z : i + 1 - 1 ≡ i = omega arith in
     record {
-      fault = j ∙ rw (d .fault, m .was) (sym (rows-more (double l ms) noMove ms i h ∙ rw (at-place noMove ms i, z) (ap (joined (rowFault (double l ms) (take i ms)) i) (turn (low (getD ms i noMove) && any (same (getD ms i noMove)) (l ++ take i ms))))));
+      fault = j ∙ rw (d .fault, m .was) (sym (rows-more (double l ms) noMove ms i h ∙ rw (at-place noMove ms i, z) (ap (joined (rowFault (double l ms) (take i ms)) i) (turn (low (getD ms i noMove) && any (alike (getD ms i noMove)) (l ++ take i ms))))));
       marked = rw (add-one, take-suc ms i noMove h, ← append-assoc l (take i ms) (getD ms i noMove ∷ [])) (m .marked);
     }
   where
@@ -85,8 +85,8 @@ fault-same P f g k n [] h a = refl
 fault-same P f g k n (x ∷ l) h a = rw (h n x (a .0), fault-same P f g (suc k) (suc n) l h (a .1))
 
 -- of moves that have flags it is asked of each
-pub double-low : (l ms : List Move) → All Low ms → rowFault (double l ms) ms ≡ rowFault (λ n t. isFalse (any (same t) (l ++ take (n - 1) ms))) ms
-double-low l ms a = fault-same Low (double l ms) (λ n t. isFalse (any (same t) (l ++ take (n - 1) ms))) 1 1 ms (λ n t h. rw (low-is t h)) a
+pub double-low : (l ms : List Move) → All Low ms → rowFault (double l ms) ms ≡ rowFault (λ n t. isFalse (any (alike t) (l ++ take (n - 1) ms))) ms
+double-low l ms a = fault-same Low (double l ms) (λ n t. isFalse (any (alike t) (l ++ take (n - 1) ms))) 1 1 ms (λ n t h. rw (low-is t h)) a
 
 -- THE law: the first faulty line of a program's moves, by what the passes over them find.
 pub single-moves : (p : Program) (moves : List ℕ) (steps calls acts : ℕ) (s k d r a : ℕ) (seen after done : List ℕ) → Moving p moves steps calls acts → LowMoves p

@@ -14,9 +14,9 @@ ghost use Rattle.singling.specs.Singling.{Doubled, LowMoves};
 use faults::count_rows;
 use faults::joined;
 use faults::onward;
-use faults::row_after;
-use faults::rows_from;
 use tables::Program;
+use tables::row_after;
+use tables::rows_from;
 
 // A flag for each state and event.
 const FLAGS: usize = (Program::STATES + 1) * (Program::EVENTS + 1);

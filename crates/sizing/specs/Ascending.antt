@@ -3,30 +3,24 @@ use Prim.Native.Nat.{ℕ, zero, suc, _+_, _≤_, _<_}
 use mathlib.Core.Path.{_≡_, refl}
 use mathlib.Core.Bool.{Bool, true, false}
 use mathlib.Core.List.{List, [], _∷_}
-use mathlib.Core.Logic.{dite}
-use native.Mathlib.Decide.{ℕ-discrete}
 use native.Mathlib.Omega.{arith}
 use borrow.Author.Tests.{lt-ltb}
+use borrow.Author.Count.{below-more}
 use lib.Dec.{ltb}
 use lib.ListN.{length, getD}
 use Rattle.lists.specs.Lists.{keep, push, All}
+use Rattle.lists.specs.Facts.{and-fails}
 use Rattle.lists.specs.Keep.{All-keep}
 use Rattle.rows.specs.Seek.{table}
 use Rattle.programs.specs.Sizes.{EVENTS}
 use Rattle.tables.specs.Decode.{flag, deferOf}
+use Rattle.tables.specs.Numbered.{table-all}
 use Rattle.soundness.specs.Asked.{ascending}
-use Rattle.faults.specs.Each.{and-fails}
 
 -- a number below all of an ascending list in front of it
 ascends : (x : ℕ) (l : List ℕ) → All (λ y. x < y) l → ascending l ≡ true → ascending (x ∷ l) ≡ true
 ascends x [] h e = refl
 ascends x (y ∷ l) h e = rw (lt-ltb x y (h .0)) e
-
--- all numbers from k on
-from-all : (k i n : ℕ) → k < i → All (λ y. k < y) (table (λ e. e) i n)
-unfolding table
-from-all k i zero h = tt
-from-all k i (suc n) h = (h, from-all k (i + 1) n (omega arith))
 
 -- those of them that pass are ascending
 kept-ascends : (f : ℕ → Bool) (k n : ℕ) → ascending (keep f (table (λ e. e) k n)) ≡ true
@@ -35,7 +29,7 @@ kept-ascends f k zero = refl
 kept-ascends f k (suc n) = go (f k) (kept-ascends f (k + 1) n)
   where
     go : (b : Bool) → ascending (keep f (table (λ e. e) (k + 1) n)) ≡ true → ascending (push b k (keep f (table (λ e. e) (k + 1) n))) ≡ true
-    go true h = ascends k (keep f (table (λ e. e) (k + 1) n)) (All-keep (λ y. k < y) f (table (λ e. e) (k + 1) n) (from-all k (k + 1) n (omega arith))) h
+    go true h = ascends k (keep f (table (λ e. e) (k + 1) n)) (All-keep (λ y. k < y) f (table (λ e. e) (k + 1) n) (table-all (λ y. k < y) (λ e. e) (k + 1) n (λ y a b. omega arith))) h
     go false h = h
 
 -- what a state defers is
@@ -49,7 +43,7 @@ Rising l i = (j : ℕ) → j < i → ltb (getD l j 0) (getD l (j + 1) 0) ≡ tru
 
 -- with one more
 pub rising-more : (l : List ℕ) (i : ℕ) → Rising l i → ltb (getD l i 0) (getD l (i + 1) 0) ≡ true → Rising l (i + 1)
-rising-more l i h t j b = dite (ℕ-discrete j i) (λ q. rw q t) (λ q. h j (omega arith))
+rising-more l i h t = below-more (λ j. ltb (getD l j 0) (getD l (j + 1) 0) ≡ true) i h t
 
 -- to the last but one
 pub rising-ascends : (l : List ℕ) (i : ℕ) → length l ≤ i + 1 → Rising l i → ascending l ≡ true

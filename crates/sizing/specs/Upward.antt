@@ -7,8 +7,9 @@ use mathlib.Core.Logic.{dite}
 use native.Mathlib.Decide.{ℕ-discrete}
 use native.Mathlib.Omega.{arith}
 use lib.ListN.{length, getD}
+use borrow.Author.Count.{below-more}
 use Rattle.lists.specs.Lists.{upTo, any}
-use Rattle.faults.specs.Each.{and-fails}
+use Rattle.lists.specs.Facts.{and-fails}
 
 module _ (f : ℕ → Bool) where
   -- one number more
@@ -29,7 +30,7 @@ module _ {A : Type 0} (f : A → Bool) (d : A) where
 
   -- with one more
   pub none-more : (l : List A) (i : ℕ) → NoneOf l i → f (getD l i d) ≡ false → NoneOf l (i + 1)
-  none-more l i h t j b = dite (ℕ-discrete j i) (λ q. rw q t) (λ q. h j (omega arith))
+  none-more l i h t = below-more (λ j. f (getD l j d) ≡ false) i h t
 
   -- none passes
   pub any-none : (l : List A) (i : ℕ) → length l ≤ i → NoneOf l i → any f l ≡ false

@@ -270,10 +270,11 @@ module _ (p : Program) where
     start = λ k. free;
   }
 
-  -- 6: "two transitions, or two actions, for one state and event", at the later line
-  abbrev pub alike : Move → Move → Bool
-  alike t u = eqb (t .from) (u .from) && eqb (t .on) (u .on)
+-- 6: "two transitions, or two actions, for one state and event", at the later line
+abbrev pub alike : Move → Move → Bool
+alike t u = eqb (t .from) (u .from) && eqb (t .on) (u .on)
 
+module _ (p : Program) where
   -- ANSWER 6: no earlier line for the state and event; a step and a call are both transitions
   abbrev pub single : Asked
   single = record {

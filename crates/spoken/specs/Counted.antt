@@ -1,8 +1,7 @@
--- The laws of the functions of this crate: a number of a line as the code has it, the test of a line's own number, the kinds of the forms.
+-- The laws of the functions of this crate: the test of a line's own number, the kinds of the forms.
 use Prim.Native.Nat.{ℕ, zero, suc, _+_, _-_, _≤_, _<_, min}
-use mathlib.Core.Path.{_≡_, refl, ap, _∙_}
-use mathlib.Core.Option.{Option, none, some}
-use mathlib.Core.Bool.{Bool, true, false, _&&_}
+use mathlib.Core.Path.{_≡_, refl, ap, sym, _∙_}
+use mathlib.Core.Bool.{Bool, true, false, and-false}
 use mathlib.Core.List.{List, [], _∷_, map}
 use mathlib.Core.Logic.{dite}
 use native.Mathlib.Decide.{decLe}
@@ -10,24 +9,11 @@ use native.Mathlib.Omega.{arith}
 use borrow.Author.Tests.{eqb-true, eq-eqb, ne-eqb, leb-true, lt-leb}
 use lib.Dec.{eqb, leb}
 use lib.ListN.{length, getD, List·getD-map}
-use Rattle.lists.specs.Lists.{onOpt}
 use Rattle.lists.specs.Facts.{and-parts}
 use Rattle.texts.specs.Reading.{kind, next}
 use Rattle.texts.specs.Forms.{startLine}
-use Rattle.numerals.specs.declared.Numeral.the-variants.{Not as noNumber, Number as number}
-use Rattle.numerals.specs.Numerals.{CAP, capped}
+use Rattle.numerals.specs.Numerals.{CAP}
 use Rattle.spoken.specs.Spoken.{sayings, lineAt}
-
--- A NUMBER
--- no number counts as 0
-pub number-none : (o : Option ℕ) → noNumber ≡ capped o → 0 ≡ min (onOpt o 0 (λ n. n)) CAP
-number-none none e = refl
-number-none (some m) e = absurd (let z : _≡_ {A = ℕ} 0 1 = cc in omega arith)
-
--- a number is cut
-pub number-some : (o : Option ℕ) (n : ℕ) → number n ≡ capped o → n ≡ min (onOpt o 0 (λ m. m)) CAP
-number-some none n e = absurd (let z : _≡_ {A = ℕ} 0 1 = cc in omega arith)
-number-some (some m) n e = cc
 
 -- A LINE'S OWN NUMBER
 -- of the cut number the test is the same: no size is so large
@@ -37,14 +23,8 @@ next-cut size n i h = dite (decLe i CAP) low high
     low : i ≤ CAP → next size n (min i CAP) ≡ next size n i
     low l = ap (next size n) (let e : min i CAP ≡ i = omega arith in e)
 
-    none : (a b : Bool) → a && false ≡ b && false
-    none true true = refl
-    none true false = refl
-    none false true = refl
-    none false false = refl
-
     high : (i ≤ CAP → ⊥) → next size n (min i CAP) ≡ next size n i
-    high l = rw (lt-leb (min i CAP) size (omega arith), lt-leb i size (omega arith)) (none (eqb (min i CAP) (n + 1)) (eqb i (n + 1)))
+    high l = rw (lt-leb (min i CAP) size (omega arith), lt-leb i size (omega arith)) (and-false (eqb (min i CAP) (n + 1)) ∙ sym (and-false (eqb i (n + 1))))
 
 -- so what the code tests is what is asked of the line: m is how many lines it counts, x its own number j, cut
 pub next-told : (size : ℕ) → size < CAP → {n m i j x : ℕ} {r : Bool} → m ≡ n → j ≡ i → x ≡ min j CAP → r ≡ next size m x → r ≡ next size n i

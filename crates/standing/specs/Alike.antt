@@ -8,7 +8,7 @@ use native.Mathlib.Omega.{arith}
 use lib.Dec.{leb}
 use lib.ListN.{length, length-map, List·getD-map, List·getD-eq-default}
 use Rattle.lists.specs.Lists.{at, There, there, all}
-use Rattle.lists.specs.Facts.{All-map}
+use Rattle.lists.specs.Facts.{All-map, and-fails}
 use Rattle.lists.specs.Tells.{form, denied, agree, at-most, there-is, every}
 use Rattle.lists.specs.Check.{_also_, atMost, each, each-all}
 use Rattle.rows.specs.Pad.{below?}
@@ -19,7 +19,7 @@ use Rattle.programs.specs.declared.Expr.{Expr}
 use Rattle.programs.specs.declared.Expr.the-variants.{Leaf as leaf, Unary as unary, Binary as binary}
 use Rattle.programs.specs.Program.{Program, Variable, Stmt, Action, State, skip, assign, new, delete, send, raise, leave, return, assert, seq, if, while, variableAt}
 use Rattle.soundness.specs.Asked.{isId, variableThere, exprThere, leafRefers, exprRefers, stmtRefers, refers, eventThere}
-use Rattle.faults.specs.Each.{and-fails, fails}
+use Rattle.faults.specs.Each.{fails}
 use Rattle.tabled.specs.Tabled.{byteOf, wordOf, deferrable}
 use Rattle.tables.specs.Decode.{noVariable}
 use Rattle.standing.specs.Stood.{variableStood, leafStood, exprStood, pairStood, stmtStood, actionStood, stateStood, stood, Fitting}

@@ -1,14 +1,16 @@
 -- Laws of a table that is written from a list, as a column of words or as rows of one width, and read back place by place.
 use Prim.Native.Nat.{ℕ, zero, suc, _+_, _*_, _≤_, _<_, min}
-use mathlib.Core.Path.{_≡_, refl, ap, _∙_}
-use mathlib.Core.List.{List, [], _∷_, _++_, map}
-use native.Mathlib.Nat.{suc-mul, zero-mul}
+use mathlib.Core.Path.{_≡_, refl, ap, sym, _∙_}
+use mathlib.Core.List.{List, [], _∷_, _++_, map, append-nil}
 use native.Mathlib.Omega.{arith}
 use lib.ListN.{length, getD, length-append, List·getD-append}
 use lib.Seq.{getD-append-add}
 use Rattle.lists.specs.Lists.{flat}
+use Rattle.lists.specs.Facts.{All-each}
 use Rattle.rows.specs.Pad.{pad, pad-get}
+use Rattle.rows.specs.Part.{part, part-get}
 use Rattle.rows.specs.Seek.{table}
+use Rattle.tables.specs.Widths.{flat-part}
 
 module _ {A B : Type 0} (f : ℕ → B) (g : A → B) (d : A) where
   -- A table whose rows, from k on, are the images of a list's places is the list's image.
@@ -46,13 +48,9 @@ column-get h d size n l i b =
 module _ {A : Type 0} (row : A → List ℕ) (w : ℕ) (d : A) (width : (x : A) → length (row x) ≡ w) where
   -- place j of row i, counted from 0
   flat-get : (l : List A) (i j : ℕ) → i < length l → j < w → getD (flat row l) (i * w + j) 0 ≡ getD (row (getD l i d)) j 0
-  flat-get [] i j b h = absurd (omega arith)
-  flat-get (x ∷ l) zero j b h =
-      let e : 0 * w + j ≡ j = omega (arith, zero-mul w) in
-      ap (λ (k : ℕ). getD (row x ++ flat row l) k 0) e ∙ List·getD-append (row x) (flat row l) 0 j (omega (arith, width x))
-  flat-get (x ∷ l) (suc i) j b h =
-      let e : suc i * w + j ≡ length (row x) + (i * w + j) = omega (arith, width x, suc-mul i w) in
-      ap (λ (k : ℕ). getD (row x ++ flat row l) k 0) e ∙ getD-append-add (row x) (flat row l) (i * w + j) 0 ∙ flat-get l i j (omega arith) h
+  flat-get l i j b h =
+      sym (part-get (i * w) w (flat row l) j 0 h) ∙ ap (λ (r : List ℕ). getD (part (i * w) w r) j 0) (sym (append-nil (flat row l)))
+      ∙ ap (λ (r : List ℕ). getD r j 0) (flat-part row w d l [] i b (All-each (λ x. length (row x) ≡ w) width l))
 
   -- of a run of rows, with others before and behind it
   pub row-within : (size : ℕ) (before l behind : List A) (i j k : ℕ) → i < length l → j < w → k ≡ (length before + i) * w + j

@@ -2,7 +2,7 @@
 use Prim.Native.Nat.{ℕ, _+_, _-_, _*_, _≤_, _<_, min}
 use mathlib.Core.Path.{_≡_, refl, ap, _∙_}
 use mathlib.Core.Bool.{true, false}
-use mathlib.Core.List.{List, [], _∷_, _++_, map}
+use mathlib.Core.List.{List, [], _∷_, _++_, map, map-id}
 use native.Mathlib.Omega.{arith}
 use lib.IntN.{ℤ}
 use lib.ListN.{length, getD}
@@ -24,6 +24,7 @@ use Rattle.codes.specs.Laws.{int-back}
 use Rattle.tables.specs.Decode.{byte, short, tyOf, eventsOf, noVariable, variablesOf, exprOf, exprIn, exprsOf, noAction, actionsOf, MOVES, moveIn, movesOf}
 use Rattle.faults.specs.Read.{noMove}
 use Rattle.tabled.specs.Tabled.{wordOf, byteOf, tyCode, eventTable, variableKinds, variableTypes, leafRow, exprRow, exprTable, actionKinds, actionBodies, moveRow, moveTable}
+use Rattle.tabled.specs.Widths.{expr-three}
 use Rattle.standing.specs.Stood.{word-again, byte-again, variableStood, exprStood, leafStood, actionStood, moveStood}
 use Rattle.standing.specs.Columns.{table-map, table-reads, head-get, column-get, row-within, row-after}
 
@@ -41,11 +42,7 @@ type-back id = refl
 pub events-read : (es : List Ty) → length es ≤ EVENTS → eventsOf (eventTable es) ≡ es
 unfolding eventsOf eventTable
 events-read es h = table-reads _ (λ t. t) void _ EVENTS es (head-get 65 (length es) (map tyCode es)) h
-    (λ i b. ap tyOf (column-get tyCode void 65 (length es) es i b) ∙ type-back (getD es i void)) ∙ map-itself es
-  where
-    map-itself : (l : List Ty) → map (λ t. t) l ≡ l
-    map-itself [] = refl
-    map-itself (t ∷ l) = rw (map-itself l)
+    (λ i b. ap tyOf (column-get tyCode void 65 (length es) es i b) ∙ type-back (getD es i void)) ∙ map-id es
 
 -- VARIABLES
 pub variables-read : (vs : List Variable) → length vs ≤ KINDS * VARIABLES → variablesOf (variableKinds vs) (variableTypes vs) ≡ map variableStood vs
@@ -109,23 +106,6 @@ expr-back p (binary sub a b) h = λ i. binary sub (word-again a i) (word-again b
 expr-back p (binary and a b) h = λ i. binary and (word-again a i) (word-again b i)
 expr-back p (binary or a b) h = λ i. binary or (word-again a i) (word-again b i)
 
--- three words to a row
-expr-width : (e : Expr) → length (exprRow e) ≡ 3
-expr-width (leaf bot) = refl
-expr-width (leaf (intVal z)) = refl
-expr-width (leaf (boolVal b)) = refl
-expr-width (leaf (var x)) = refl
-expr-width (leaf this) = refl
-expr-width (leaf msg) = refl
-expr-width (leaf arg) = refl
-expr-width (leaf star) = refl
-expr-width (unary not′ a) = refl
-expr-width (unary neg a) = refl
-expr-width (binary add a b) = refl
-expr-width (binary sub a b) = refl
-expr-width (binary and a b) = refl
-expr-width (binary or a b) = refl
-
 -- the expressions
 pub exprs-read : (p : Program) (xs : List Expr) → length xs ≤ EXPRS → All (λ e. exprRanged p e .Holds) xs → exprsOf (exprTable xs) ≡ map exprStood xs
 unfolding exprsOf exprTable
@@ -137,4 +117,4 @@ exprs-read p xs h r = table-reads (exprIn (pad 0 3075 (length xs ∷ 0 ∷ 0 ∷
     -- word j of expression i
     cell : (i : ℕ) → i < length xs → (j k : ℕ) → j < 3 → k ≡ 3 + (i * 3 + j)
         → getD (pad 0 3075 (length xs ∷ 0 ∷ 0 ∷ flat exprRow xs)) k 0 ≡ getD (exprRow (getD xs i (leaf bot))) j 0
-    cell i b j k h e = row-after exprRow 3 (leaf bot) expr-width 3075 (length xs ∷ 0 ∷ 0 ∷ []) xs i j k refl b h e
+    cell i b j k h e = row-after exprRow 3 (leaf bot) expr-three 3075 (length xs ∷ 0 ∷ 0 ∷ []) xs i j k refl b h e

@@ -10,12 +10,12 @@ use Rattle.lists.specs.Check.{each-all}
 use Rattle.programs.specs.Sizes.{KINDS, VARIABLES}
 use Rattle.programs.specs.Program.{Program, Move}
 use Rattle.machines.specs.Config.{Choice}
-use Rattle.soundness.specs.Asked.{ascending, orderly}
+use Rattle.soundness.specs.Asked.{ascending, orderly, initOf}
 use Rattle.soundness.specs.Sound.{exprRanged}
 use Rattle.soundness.specs.Lines.{tables, numbered-all}
 use Rattle.loaded.specs.Fitting.{Prepared}
 use Rattle.tables.specs.Decode.{MOVES, PAIRS, movesOf, programOf}
-use Rattle.tabled.specs.Tabled.{initsOf, moveTable, tabled}
+use Rattle.tabled.specs.Tabled.{moveTable, tabled}
 use Rattle.standing.specs.Stood.{moveStood, stood, Fitting}
 use Rattle.standing.specs.Plain.{events-read, variables-read, exprs-read, actions-read, moves-read}
 use Rattle.standing.specs.Statements.{stmts-read}
@@ -23,7 +23,7 @@ use Rattle.standing.specs.States.{states-read}
 
 -- WHAT A TEXT IS READ TO fits
 pub prepared-fits : (p : Program) (c : List Choice) → Prepared p c → length (p .variables) ≤ KINDS * VARIABLES
-    → length (p .steps) + (length (p .calls) + length (p .acts)) ≤ MOVES → length (flat initsOf (p .stmts)) ≤ PAIRS → Fitting p
+    → length (p .steps) + (length (p .calls) + length (p .acts)) ≤ MOVES → length (flat initOf (p .stmts)) ≤ PAIRS → Fitting p
 prepared-fits p c h variables moves pairs = record {
   events = h .is-sized .1 .0;
   machines = h .is-sized .0;

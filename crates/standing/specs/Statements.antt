@@ -8,21 +8,23 @@ use Rattle.lists.specs.Lists.{All, flat}
 use Rattle.rows.specs.Pad.{pad}
 use Rattle.programs.specs.Sizes.{STMTS}
 use Rattle.programs.specs.Program.{Stmt, skip, assign, new, delete, send, raise, leave, return, assert, seq, if, while}
+use Rattle.soundness.specs.Asked.{initOf}
 use Rattle.tables.specs.declared.Head.{Head}
 use Rattle.tables.specs.Decode.{byte, headOf, headIn, headsOf, pairIn, PAIRS, pairsOf, stmtOf, stmtsOf}
-use Rattle.tabled.specs.Tabled.{wordOf, stmtRow, initsOf, stmtRows, stmtTable, pairRow, initPool}
+use Rattle.tabled.specs.Tabled.{wordOf, stmtRow, stmtRows, stmtTable, pairRow, initPool}
+use Rattle.tabled.specs.Widths.{stmt-five}
 use Rattle.standing.specs.Stood.{byte-again, pairStood, stmtStood}
 use Rattle.standing.specs.Columns.{table-map, table-reads, head-get, row-within, row-after}
 
 -- EACH STATEMENT WITH THE PLACE OF ITS FIRST PAIR
 abbrev placed : ℕ → List Stmt → List (ℕ × Stmt)
 placed i [] = []
-placed i (s ∷ ss) = (i, s) ∷ placed (i + length (initsOf s)) ss
+placed i (s ∷ ss) = (i, s) ∷ placed (i + length (initOf s)) ss
 
 -- as many as the statements
 placed-length : (i : ℕ) (ss : List Stmt) → length (placed i ss) ≡ length ss
 placed-length i [] = refl
-placed-length i (s ∷ ss) = ap suc (placed-length (i + length (initsOf s)) ss)
+placed-length i (s ∷ ss) = ap suc (placed-length (i + length (initOf s)) ss)
 
 -- the row of one
 abbrev rowOf : ℕ × Stmt → List ℕ
@@ -31,25 +33,7 @@ rowOf x = stmtRow (x .0) (x .1)
 -- the rows of all
 placed-rows : (i : ℕ) (ss : List Stmt) → stmtRows i ss ≡ flat rowOf (placed i ss)
 placed-rows i [] = refl
-placed-rows i (s ∷ ss) = ap (λ (r : List ℕ). stmtRow i s ++ r) (placed-rows (i + length (initsOf s)) ss)
-
--- five words to a row
-row-width : (x : ℕ × Stmt) → length (rowOf x) ≡ 5
-row-width x = go (x .1)
-  where
-    go : (s : Stmt) → length (stmtRow (x .0) s) ≡ 5
-    go skip = refl
-    go (assign y e) = refl
-    go (new y k l) = refl
-    go delete = refl
-    go (send t e a) = refl
-    go (raise e a) = refl
-    go leave = refl
-    go return = refl
-    go (assert e) = refl
-    go (seq a b) = refl
-    go (if e a b) = refl
-    go (while e a) = refl
+placed-rows i (s ∷ ss) = ap (λ (r : List ℕ). stmtRow i s ++ r) (placed-rows (i + length (initOf s)) ss)
 
 -- THE HEADS
 -- a row read
@@ -72,12 +56,12 @@ heads-read ss h = rw (placed-rows 0 ss) (table-reads (headIn (pad 0 5125 (length
     -- word j of statement i
     cell : (i : ℕ) → i < length (placed 0 ss) → (j k : ℕ) → j < 5 → k ≡ 5 + (i * 5 + j)
         → getD (pad 0 5125 (length ss ∷ 0 ∷ 0 ∷ 0 ∷ 0 ∷ flat rowOf (placed 0 ss))) k 0 ≡ getD (rowOf (getD (placed 0 ss) i (0, skip))) j 0
-    cell i b j k h e = row-after rowOf 5 (0, skip) row-width 5125 (length ss ∷ 0 ∷ 0 ∷ 0 ∷ 0 ∷ []) (placed 0 ss) i j k refl b h e
+    cell i b j k h e = row-after rowOf 5 (0, skip) (λ x. stmt-five (x .0) (x .1)) 5125 (length ss ∷ 0 ∷ 0 ∷ 0 ∷ 0 ∷ []) (placed 0 ss) i j k refl b h e
 
 -- THE PAIRS
 -- the pool has this statement's pairs from its place on
 abbrev Pooled : List ℕ → ℕ × Stmt → Type 0
-Pooled pool x = pairsOf pool (x .0) (length (initsOf (x .1))) ≡ map pairStood (initsOf (x .1))
+Pooled pool x = pairsOf pool (x .0) (length (initOf (x .1))) ≡ map pairStood (initOf (x .1))
 
 -- a run of the pairs, with others before and behind it
 pairs-read : (before l behind : List (ℕ × ℕ)) → length before + length l ≤ PAIRS
@@ -94,14 +78,14 @@ pairs-read before l behind h =
     cell i b j k h e = row-within pairRow 2 (0, 0) (λ x. refl) 30000 before l behind i j k b h e
 
 -- so it is of every statement, with these pairs before them
-all-pooled : (before : List (ℕ × ℕ)) (ss : List Stmt) → length before + length (flat initsOf ss) ≤ PAIRS
-    → All (Pooled (pad 0 30000 (flat pairRow (before ++ flat initsOf ss)))) (placed (length before) ss)
+all-pooled : (before : List (ℕ × ℕ)) (ss : List Stmt) → length before + length (flat initOf ss) ≤ PAIRS
+    → All (Pooled (pad 0 30000 (flat pairRow (before ++ flat initOf ss)))) (placed (length before) ss)
 all-pooled before [] h = tt
 all-pooled before (s ∷ ss) h =
-    let n : length (flat initsOf (s ∷ ss)) ≡ length (initsOf s) + length (flat initsOf ss) = length-append (initsOf s) (flat initsOf ss) in
-    let m : length (before ++ initsOf s) ≡ length before + length (initsOf s) = length-append before (initsOf s) in
-    let later = all-pooled (before ++ initsOf s) ss (omega arith) in
-    (pairs-read before (initsOf s) (flat initsOf ss) (omega arith), rw (append-assoc before (initsOf s) (flat initsOf ss), m) at later)
+    let n : length (flat initOf (s ∷ ss)) ≡ length (initOf s) + length (flat initOf ss) = length-append (initOf s) (flat initOf ss) in
+    let m : length (before ++ initOf s) ≡ length before + length (initOf s) = length-append before (initOf s) in
+    let later = all-pooled (before ++ initOf s) ss (omega arith) in
+    (pairs-read before (initOf s) (flat initOf ss) (omega arith), rw (append-assoc before (initOf s) (flat initOf ss), m) at later)
 
 -- THE STATEMENTS
 -- one, read with its pairs
@@ -125,10 +109,10 @@ stmts-back : (pool : List ℕ) (i : ℕ) (ss : List Stmt) → All (Pooled pool) 
 stmts-back pool i [] h = refl
 stmts-back pool i (s ∷ ss) h =
     let first = stmt-back pool i s (h .0) in
-    let later = stmts-back pool (i + length (initsOf s)) ss (h .1) in
+    let later = stmts-back pool (i + length (initOf s)) ss (h .1) in
     λ j. first j ∷ later j
 
 -- the statements
-pub stmts-read : (ss : List Stmt) → length ss ≤ STMTS → length (flat initsOf ss) ≤ PAIRS → stmtsOf (stmtTable ss) (initPool ss) ≡ map stmtStood ss
+pub stmts-read : (ss : List Stmt) → length ss ≤ STMTS → length (flat initOf ss) ≤ PAIRS → stmtsOf (stmtTable ss) (initPool ss) ≡ map stmtStood ss
 unfolding stmtsOf initPool
-stmts-read ss h k = ap (map (stmtOf (pad 0 30000 (flat pairRow (flat initsOf ss))))) (heads-read ss h) ∙ stmts-back _ 0 ss (all-pooled [] ss (omega arith))
+stmts-read ss h k = ap (map (stmtOf (pad 0 30000 (flat pairRow (flat initOf ss))))) (heads-read ss h) ∙ stmts-back _ 0 ss (all-pooled [] ss (omega arith))

@@ -10,14 +10,17 @@ use borrow.Author.Tests.{ne-eqb}
 use lib.Dec.{eqb, ltb}
 use lib.ListN.{length, getD, replicate, length-replicate}
 use Rattle.lists.specs.Lists.{All, There, any, keep, push, flat}
-use Rattle.lists.specs.Facts.{eqb-same, and-parts, All-map, All-at, All-zip}
+use Rattle.lists.specs.Facts.{eqb-same, flag-back, and-parts, All-map, All-at, All-zip}
+use Rattle.lists.specs.Keep.{keep-ext}
 use Rattle.lists.specs.Tells.{every, there-is, less}
 use Rattle.rows.specs.Pad.{pad}
-use Rattle.rows.specs.Seek.{table, table-length, table-at}
+use Rattle.rows.specs.Seek.{table, table-at}
 use Rattle.programs.specs.Sizes.{EVENTS, STATES}
 use Rattle.programs.specs.Program.{State}
 use Rattle.soundness.specs.Asked.{ascending}
 use Rattle.tables.specs.Decode.{noState, flag, deferOf, statesOf}
+use Rattle.tables.specs.Numbered.{table-all}
+use Rattle.tabled.specs.Widths.{flag-length}
 use Rattle.tabled.specs.Tabled.{wordOf, deferrable, stateKind, flagRow, stateKinds, stateEntries, stateExits, deferTable}
 use Rattle.standing.specs.Stood.{stateStood}
 use Rattle.standing.specs.Columns.{table-reads, head-get, column-get, row-after}
@@ -25,9 +28,7 @@ use Rattle.standing.specs.Columns.{table-reads, head-get, column-get, ro
 -- WHAT IS KEPT OF THE NUMBERS FROM k ON
 -- two tests that agree from k on keep the same
 keep-alike : (f g : ℕ → Bool) (k n : ℕ) → ((e : ℕ) → k ≤ e → e < k + n → f e ≡ g e) → keep f (table (λ e. e) k n) ≡ keep g (table (λ e. e) k n)
-unfolding table
-keep-alike f g k zero h = refl
-keep-alike f g k (suc n) h = rw (h k (omega arith) (omega arith), keep-alike f g (k + 1) n (λ e a b. h e (omega arith) (omega arith)))
+keep-alike f g k n h = keep-ext f g (table (λ e. e) k n) (table-all (λ e. f e ≡ g e) (λ e. e) k n h)
 
 -- the numbers of an ascending list lie above its first
 rising : (x : ℕ) (l : List ℕ) → ascending (x ∷ l) ≡ true → All (λ y. x < y) l × (ascending l ≡ true)
@@ -84,15 +85,6 @@ defer-back n a = go (deferrable n) refl
     go true q = kept-list EVENTS 1 (n .defer) a (All-map (There EVENTS) _ (n .defer) (λ e b. (b .0, omega (arith, b .1))) (every (n .defer) (there-is EVENTS) .holds q))
     go false q = kept-list EVENTS 1 [] refl tt
 
--- a flag as a word
-flag-back : (b : Bool) → not (eqb (cond b 1 0) 0) ≡ b
-flag-back true = refl
-flag-back false = refl
-
--- a flag for each event
-flag-width : (n : State) → length (flagRow n) ≡ 65
-flag-width n = table-length (λ e. cond (deferrable n && any (eqb e) (n .defer)) 1 0) 0 65
-
 -- THE STATES
 pub states-read : (ns : List State) → length ns ≤ STATES → All (λ n. ascending (n .defer) ≡ true) ns
     → statesOf (stateKinds ns) (stateEntries ns) (stateExits ns) (deferTable ns) ≡ map stateStood ns
@@ -107,7 +99,7 @@ states-read ns h a = table-reads _ stateStood noState _ STATES ns (head-get 65 (
     -- the flag of state i and event e
     flag-get : (i : ℕ) → i < length ns → (e : ℕ) → e < 65 → flag (pad 0 4225 (replicate 65 0 ++ flat flagRow ns)) (1 + i) e ≡ flagged (getD ns i noState) e
     flag-get i b e h =
-        let g = row-after flagRow 65 noState flag-width 4225 (replicate 65 0) ns i e ((1 + i) * 65 + e) (length-replicate {A = ℕ} 65 0) b h (omega arith) in
+        let g = row-after flagRow 65 noState flag-length 4225 (replicate 65 0) ns i e ((1 + i) * 65 + e) (length-replicate {A = ℕ} 65 0) b h (omega arith) in
         ap (λ (n : ℕ). not (eqb n 0)) (g ∙ table-at (λ d. cond (deferrable (getD ns i noState) && any (eqb d) (getD ns i noState .defer)) 1 0) 0 65 e h)
         ∙ flag-back (flagged (getD ns i noState) e)
 

@@ -13,10 +13,10 @@ use Rattle.programs.specs.declared.Expr.{Expr}
 use Rattle.programs.specs.declared.Expr.the-variants.{Leaf as leaf, Unary as unary, Binary as binary}
 use Rattle.programs.specs.Sizes.{KINDS, EVENTS, VARIABLES, EXPRS, STMTS, ACTIONS, STATES}
 use Rattle.programs.specs.Program.{Program, Variable, Stmt, Action, State, Move, skip, assign, new, delete, send, raise, leave, return, assert, seq, if, while}
-use Rattle.soundness.specs.Asked.{ascending}
+use Rattle.soundness.specs.Asked.{ascending, initOf}
 use Rattle.soundness.specs.Sound.{exprRanged}
 use Rattle.tables.specs.Decode.{byte, short, MOVES, PAIRS}
-use Rattle.tabled.specs.Tabled.{byteOf, wordOf, initsOf, deferrable, stateKind}
+use Rattle.tabled.specs.Tabled.{byteOf, wordOf, deferrable, stateKind}
 
 -- a word of 16 bits read as one
 pub word-again : (n : ℕ) → short (wordOf n) ≡ wordOf n
@@ -104,6 +104,6 @@ pub record Fitting (p : Program) : Type 0 where
   pub actions : length (p .actions) ≤ ACTIONS
   pub states : length (p .states) ≤ STATES
   pub moves : length (p .steps) + (length (p .calls) + length (p .acts)) ≤ MOVES
-  pub pairs : length (flat initsOf (p .stmts)) ≤ PAIRS
+  pub pairs : length (flat initOf (p .stmts)) ≤ PAIRS
   pub ranged : All (λ e. exprRanged p e .Holds) (p .exprs)
   pub deferring : All (λ n. ascending (n .defer) ≡ true) (p .states)

@@ -4,6 +4,7 @@ use answers::Answer;
 use engine::Outcome;
 use rules::Rule;
 use tables::Program;
+use tables::wide;
 use values::Value;
 ghost use mathlib.Core.Path.{_≡_};
 ghost use Prim.Native.Nat.{ℕ, _*_, _%_, _<_};
@@ -27,13 +28,6 @@ fn truth(v: Value) -> u8
         Value::Event(_) => 2,
         Value::Id(_) => 2,
     }
-}
-
-// An expression's number, as an index.
-fn wide(x: u16) -> usize
-    ensures { λ r. ⌜ r ≡ x ⌝ }
-{
-    x as usize
 }
 
 // The number of the condition e in the machine of room k, under the bits w.

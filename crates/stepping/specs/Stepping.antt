@@ -2,8 +2,7 @@
 use Prim.Native.Nat.{ℕ}
 use mathlib.Core.Path.{_≡_, refl, ap, sym, _∙_, subst}
 use mathlib.Core.Bool.{Bool, true, false, not, cond, true≢false}
-use borrow.Author.Tests.{not-false}
-use Rattle.lists.specs.Facts.{not-true}
+use borrow.Author.Tests.{not-false, not-true}
 use Rattle.lists.specs.Tells.{Tells}
 use Rattle.answers.specs.declared.Answer.the-variants.{NotAccepted}
 use Rattle.values.specs.declared.Live.{Live}

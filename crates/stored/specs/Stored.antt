@@ -7,12 +7,13 @@ use mathlib.Core.Bool.{Bool, true, false, true≢false}
 use mathlib.Core.List.{List, [], _∷_, _++_, map}
 use native.Mathlib.Omega.{arith}
 use borrow.Author.Tests.{eq-eqb}
-use lib.ListN.{length, getD, set, take, replicate, length-map, length-set, List·getD-map, List·getD-append}
+use lib.ListN.{length, getD, set, take, length-map, length-set, List·getD-map, List·getD-append}
 use lib.Seq.{getD-append-add, set-append-left}
 use Rattle.lists.specs.Lists.{keep, push, All, There, there}
 use Rattle.lists.specs.Tells.{there-is}
-use Rattle.lists.specs.Facts.{All-getD, has}
-use Rattle.rows.specs.Pad.{pad, pad-length, pad-get, below?}
+use Rattle.lists.specs.Facts.{All-getD, All-places, has}
+use Rattle.lists.specs.Keep.{map-set}
+use Rattle.rows.specs.Pad.{pad, pad-length, pad-get, pad-set, below?}
 use Rattle.rows.specs.Part.{part, part-get, row-set}
 use Rattle.values.specs.declared.Value.{Value}
 use Rattle.values.specs.declared.Value.the-variants.{Undefined as undefined, Event as vevent}
@@ -36,18 +37,13 @@ use Rattle.codes.specs.Laws.{value-code, code-small, code-canonical}
 use Rattle.tables.specs.Decode as decode
 use Rattle.index.specs.Index.{Places}
 use Rattle.evaluation.specs.Evaluated.{storeIn, REST, evaluated, Readable}
-use Rattle.evaluation.specs.Own.{Own, Agree, own-tree, evaluated-is}
+use Rattle.evaluation.specs.Own.{Agree, own-tree, evaluated-is}
 use Rattle.configs.specs.Encode.{taken}
 use Rattle.configs.specs.RoundTrip.{holdable, value-back}
 use Rattle.configs.specs.Flat.{Flat}
 use Rattle.engine.specs.Engine.{Stands}
 
 -- LISTS
--- what holds of what stands at each place holds of every element
-all-places : (P : ℕ → Type 0) (l : List ℕ) → ((i : ℕ) → i < length l → P (getD l i 0)) → All P l
-all-places P [] h = tt
-all-places P (x ∷ l) h = (h 0 (omega arith), all-places P l (λ i b. h (suc i) (omega arith)))
-
 module _ {A : Type 0} where
   -- of the elements that pass, fewer stand before one that does
   kept-before : (f : A → Bool) (d : A) (l : List A) (i : ℕ) → i < length l → f (getD l i d) ≡ true → length (keep f (take i l)) < length (keep f l)
@@ -64,17 +60,6 @@ module _ {A : Type 0} where
   set-behind [] ys i v = let e : 0 + i ≡ i = omega arith in rw e
   set-behind (x ∷ xs) ys i v = let e : suc (length xs) + i ≡ suc (length xs + i) = omega arith in rw (e, set-behind xs ys i v)
 
-  -- a store in an image
-  set-map : {B : Type 0} (f : A → B) (l : List A) (i : ℕ) (v : A) → set (map f l) i (f v) ≡ map f (set l i v)
-  set-map f [] i v = refl
-  set-map f (x ∷ l) zero v = refl
-  set-map f (x ∷ l) (suc i) v = rw (set-map f l i v)
-
--- a store in a list with zeros behind it
-set-pad : (size : ℕ) (xs : List ℕ) (i v : ℕ) → i < length xs → set (pad 0 size xs) i v ≡ pad 0 size (set xs i v)
-unfolding pad
-set-pad size xs i v h = set-append-left xs (replicate (size - length xs) 0) i v h ∙ ap (λ (n : ℕ). set xs i v ++ replicate (size - n) 0) (sym (length-set xs i v))
-
 -- PLACES
 module _ (p : Program) (sound : Sound p) (places : List ℕ) (here : Places p places) where
   -- a variable of kind k has its place,
@@ -87,7 +72,7 @@ module _ (p : Program) (sound : Sound p) (places : List ℕ) (here : Places p pl
   place-there k (suc x) o = let e : suc x - 1 ≡ x = omega arith in rw e (kept-before (isOf k) _ (p .variables) x (omega (arith, o .0 .1)) (eq-eqb _ k (o .1)))
 
   -- every place is one of 16
-  place-16 : (x : ℕ) → getD places x 0 < 16
+  pub place-16 : (x : ℕ) → getD places x 0 < 16
   place-16 x = by-there (there (length (p .variables)) x) refl
     where
       by-there : (b : Bool) → there (length (p .variables)) x ≡ b → getD places x 0 < 16
@@ -98,7 +83,7 @@ module _ (p : Program) (sound : Sound p) (places : List ℕ) (here : Places p pl
       by-there false e = rw (here .none x (λ t. true≢false (sym (there-is (length (p .variables)) x .test t) ∙ e))) (omega arith)
 
   pub places-small : All (λ n. n < 16) places
-  places-small = all-places (λ n. n < 16) places (λ i h. place-16 i)
+  places-small = All-places (λ n. n < 16) 0 places (λ i h. place-16 i)
 
 -- THE VALUES OF A MACHINE
 module _ (p : Program) (f : Flat) (k : ℕ) (m : Machine) (sound : Sound p) (s : Stands p f k m) where
@@ -180,7 +165,7 @@ module _ (p : Program) (f : Flat) (k : ℕ) (m : Machine) (sound : Sound p) (s :
   back n v e h = ap valueOf e ∙ value-back p (f .next) sound (s .spent) v h
 
   -- the store that the list holds is the machine's
-  pub agrees : (places : List ℕ) → Places p places → Agree (Own p (m .loc .kind)) (storeIn places (f .values) (k * 19)) (storeOf p (m .this) (m .loc))
+  pub agrees : (places : List ℕ) → Places p places → Agree (VariableOf p (m .loc .kind)) (storeIn places (f .values) (k * 19)) (storeOf p (m .this) (m .loc))
   agrees places here = record {
     variable = λ x o.
         let e = place-own p sound places here (m .loc .kind) x o in
@@ -244,7 +229,7 @@ module _ (p : Program) (f : Flat) (k : ℕ) (m : Machine) (sound : Sound p) (s :
       rw e (stored-at (place p (m .loc .kind) x) (codeOf v) (omega (arith, variables-16, length-map (m .loc .variables) codeOf))
       ∙ set-append-left (pad 0 16 (map codeOf (m .loc .variables))) _ (place p (m .loc .kind) x) (codeOf v) (omega (arith, width, variables-16, length-map (m .loc .variables) codeOf))
       ∙ ap (λ (l : List ℕ). l ++ codeOf (idOf (m .this)) ∷ codeOf (m .loc .msg) ∷ codeOf (m .loc .arg) ∷ [])
-      (set-pad 16 (map codeOf (m .loc .variables)) (place p (m .loc .kind) x) (codeOf v) b ∙ ap (pad 0 16) (set-map codeOf (m .loc .variables) (place p (m .loc .kind) x) v)))
+      (pad-set 0 16 (map codeOf (m .loc .variables)) (place p (m .loc .kind) x) (codeOf v) b ∙ ap (pad 0 16) (sym (map-set codeOf (m .loc .variables) (place p (m .loc .kind) x) v))))
 
   -- σ[msg := e][arg := v]
   pub told-set : (e : ℕ) (v : Value) → part (k * 19) 19 (set (set (f .values) (k * 19 + 17) (codeOf (vevent e))) (k * 19 + 18) (codeOf v)) ≡ taken (setLocal (told e v (m .loc)) m) .values

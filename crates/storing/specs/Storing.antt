@@ -1,18 +1,16 @@
 -- The rules of src/lib.rt: what each is asked, and what it leaves, a law for each way out.
 use Prim.Native.Nat.{ℕ, _+_, _*_, _%_, _≤_, _<_}
-use mathlib.Core.Path.{_≡_, refl, sym, _∙_}
+use mathlib.Core.Path.{_≡_, ap, refl, sym, _∙_}
 use mathlib.Core.Bool.{Bool, true, false, not}
 use mathlib.Core.List.{List, [], _∷_}
 use native.Mathlib.Omega.{arith}
 use lib.Dec.{eqb}
 use lib.ListN.{length, getD, set, drop}
 use Rattle.lists.specs.Lists.{at}
-use Rattle.rows.specs.Seek.{table-length}
 use Rattle.answers.specs.declared.Answer.the-variants.{WrongType}
 use Rattle.values.specs.declared.Ty.{Ty}
 use Rattle.values.specs.declared.Value.{Value}
 use Rattle.values.specs.Values.{suits}
-use Rattle.programs.specs.Sizes.{KINDS, VARIABLES}
 use Rattle.programs.specs.Program.{Stmt, assign, return, stmtAt, variableAt, place, Exit}
 use Rattle.programs.specs.Statements.{serves}
 use Rattle.soundness.specs.Founded.{VariableOf, Refers}
@@ -22,6 +20,7 @@ use Rattle.machines.specs.Eval.{eval}
 use Rattle.rules.specs.declared.Rule.the-variants.{ASSIGN, RETURN}
 use Rattle.codes.specs.Codes.{codeOf, valueOf}
 use Rattle.tables.specs.Decode as decode
+use Rattle.tables.specs.Tables.{variables-length}
 use Rattle.tables.specs.Decode.{noVariable, noState}
 use Rattle.parts.specs.Parts.{Said, Any, tidied}
 use Rattle.evaluation.specs.Evaluated.{REST, evaluated}
@@ -29,7 +28,7 @@ use Rattle.engine.specs.declared.Outcome.{Outcome}
 use Rattle.engine.specs.declared.Outcome.the-variants.{Took, Refused}
 use Rattle.engine.specs.Engine.{Acted}
 use Rattle.engine.specs.Holding.{RowBecomes, touched}
-use Rattle.stored.specs.Stored.{place-own, place-there, variables-count, variables-16, variable-set, head-serves}
+use Rattle.stored.specs.Stored.{place-16, variable-set, head-serves}
 use Rattle.statements.specs.Heading.{RowAsked, PartAsked, PendingLeft, actOf, row-then, asked-said}
 use Rattle.statements.specs.Conditions.{TestAsked, test-code, test-value}
 use Rattle.storing.specs.Stores.{withStored, stored-same, stored-kept}
@@ -57,20 +56,11 @@ module _ {exprs places kinds types values : List ℕ} {k x e w : ℕ} {counts pa
 
   -- its number is one of 256
   pub assign-256 : x ≤ 256
-  unfolding decode.variablesOf
-  assign-256 = let n : length (a .test .row .p .variables) ≤ 256 = rw (a .variables-are) (omega (arith, table-length (decode.variableIn kinds types) 1 (decode.count (KINDS * VARIABLES) kinds))) in
-      omega (arith, assign-own .0 .1)
+  assign-256 = omega (arith, assign-own .0 .1, ap length (a .variables-are), variables-length kinds types)
 
   -- its place is one of the machine's 16
   pub assign-place : getD places x 0 < 16
-  assign-place = let r = a .test .row in
-      omega (
-        arith,
-        place-own (r .p) (r .heading .sound) places (a .test .here) (r .m .loc .kind) x assign-own,
-        place-there (r .p) (r .heading .sound) places (a .test .here) (r .m .loc .kind) x assign-own,
-        variables-count (r .p) (r .f) k (r .m) (r .heading .sound) (r .heading .stands),
-        variables-16 (r .p) (r .f) k (r .m) (r .heading .sound) (r .heading .stands),
-      )
+  assign-place = let r = a .test .row in place-16 (r .p) (r .heading .sound) places (a .test .here) x
 
   -- v is the number of the expression's value u, t the variable's type, and `ok` whether the value suits it
   module _ (v : ℕ) (gives : v ≡ evaluated exprs places values (k * 19) e w % REST) (t : Ty) (of-type : t ≡ at noVariable (decode.variablesOf kinds types) x .type)

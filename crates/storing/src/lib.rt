@@ -5,7 +5,9 @@ use engine::Outcome;
 use rules::Rule;
 use tables::Program;
 use tables::exit_of;
+use tables::index;
 use tables::variable_type;
+use tables::wide;
 use values::suits;
 ghost use mathlib.Core.Path.{_≡_};
 ghost use Prim.Native.Nat.{ℕ, _*_, _%_, _<_};
@@ -15,20 +17,6 @@ ghost use Rattle.storing.specs.Storing.{AssignAsked, ReturnAsked, Stored
 
 // What evaluation gives holds a value's number below this.
 const REST: u64 = 1099511627776;
-
-// A number of 16 bits, as an index.
-fn wide(x: u16) -> usize
-    ensures { λ r. ⌜ r ≡ x ⌝ }
-{
-    x as usize
-}
-
-// A byte, as an index.
-fn short(x: u8) -> usize
-    ensures { λ r. ⌜ r ≡ x ⌝ }
-{
-    x as usize
-}
 
 // The number of the value of expression e in the machine of room k, under the bits w.
 pub fn number(
@@ -76,7 +64,7 @@ pub fn assign_on<'a>(
     if !suits(t, codes::value_of(v)) {
         return Outcome::Refused(Answer::WrongType);
     }
-    let j = short(places[x as usize]);
+    let j = index(places[x as usize]);
     values[k * (Program::VARIABLES + 3) + j] = v;
     let pending = held[k] != 0;
     remaining::finish_head(counts, parts, k, pending);

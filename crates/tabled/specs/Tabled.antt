@@ -1,6 +1,6 @@
 -- A program written into the tables of crates/tables, line by line, and what a text is loaded as. A number that its word cannot hold is written as the largest
 -- that it can; no table of any program has so many rows, so what the number names is absent either way.
-use Prim.Native.Nat.{ℕ, _+_, _*_, min}
+use Prim.Native.Nat.{ℕ, _+_, min}
 use mathlib.Core.Bool.{Bool, cond, _&&_}
 use mathlib.Core.List.{List, [], _∷_, _++_, map}
 use lib.Dec.{eqb}
@@ -19,6 +19,7 @@ use Rattle.programs.specs.declared.Leaf.the-variants.{Bot as bot, Int as intVal
 use Rattle.programs.specs.declared.Expr.{Expr}
 use Rattle.programs.specs.declared.Expr.the-variants.{Leaf as leaf, Unary as unary, Binary as binary}
 use Rattle.programs.specs.Program.{Program, Variable, Stmt, Action, State, Move, skip, assign, new, delete, send, raise, leave, return, assert, seq, if, while}
+use Rattle.soundness.specs.Asked.{initOf}
 use Rattle.codes.specs.Codes.{intCode}
 use Rattle.tables.specs.declared.Program.{Program as Tables}
 use Rattle.machines.specs.Config.{Choice}
@@ -96,25 +97,10 @@ stmtRow i (seq a b) = 9 ∷ wordOf a ∷ wordOf b ∷ 0 ∷ 0 ∷ []
 stmtRow i (if e a b) = 10 ∷ wordOf e ∷ wordOf a ∷ wordOf b ∷ 0 ∷ []
 stmtRow i (while e a) = 11 ∷ wordOf e ∷ wordOf a ∷ 0 ∷ 0 ∷ []
 
--- the pairs of a statement
-abbrev pub initsOf : Stmt → List (ℕ × ℕ)
-initsOf skip = []
-initsOf (assign x e) = []
-initsOf (new x k l) = l
-initsOf delete = []
-initsOf (send t e a) = []
-initsOf (raise e a) = []
-initsOf leave = []
-initsOf return = []
-initsOf (assert e) = []
-initsOf (seq a b) = []
-initsOf (if e a b) = []
-initsOf (while e a) = []
-
 -- the rows, the first pair of the first at place i
 abbrev pub stmtRows : ℕ → List Stmt → List ℕ
 stmtRows i [] = []
-stmtRows i (s ∷ ss) = stmtRow i s ++ stmtRows (i + length (initsOf s)) ss
+stmtRows i (s ∷ ss) = stmtRow i s ++ stmtRows (i + length (initOf s)) ss
 
 -- the table
 unfoldable pub stmtTable : List Stmt → List ℕ
@@ -126,7 +112,7 @@ pairRow xe = wordOf (xe .0) ∷ wordOf (xe .1) ∷ []
 
 -- the pool: the pairs of every statement, in their order
 unfoldable pub initPool : List Stmt → List ℕ
-initPool ss = pad 0 30000 (flat pairRow (flat initsOf ss))
+initPool ss = pad 0 30000 (flat pairRow (flat initOf ss))
 
 -- ACTIONS: their kinds, with how many in place 0, and their statements
 unfoldable pub actionKinds : List Action → List ℕ

@@ -1,10 +1,10 @@
 -- Laws of a table that is given row by row, and of a word that names no row.
 use mathlib.Core.Path.{_≡_, refl, sym}
 use mathlib.Core.List.{List, _∷_}
-use Prim.Native.Nat.{ℕ, zero, suc, _-_, _≤_, _<_}
+use Prim.Native.Nat.{ℕ, zero, suc, _+_, _-_, _≤_, _<_}
 use native.Mathlib.Omega.{arith}
 use lib.ListN.{length, getD, List·getD-eq-default}
-use Rattle.lists.specs.Lists.{at}
+use Rattle.lists.specs.Lists.{at, All}
 use Rattle.rows.specs.Seek.{table, table-length, table-at}
 
 -- A table of n rows, where m is n.
@@ -21,6 +21,12 @@ module _ {A : Type 0} (f : ℕ → A) (d : A) {m n e : ℕ} (count : m ≡ n) wh
   -- what would stand past the last row is absent
   pub at-past : m < e → at d (table f 1 n) e ≡ d
   at-past h = List·getD-eq-default (d ∷ table f 1 n) d {n = e} (omega (arith, table-length f 1 n))
+
+-- what holds of each row from k on holds of a table of them
+pub table-all : {A : Type 0} (P : A → Type 0) (f : ℕ → A) (k n : ℕ) → ((i : ℕ) → k ≤ i → i < k + n → P (f i)) → All P (table f k n)
+unfolding table
+table-all P f k zero h = tt
+table-all P f k (suc n) h = (h k (omega arith) (omega arith), table-all P f (k + 1) n (λ i a b. h i (omega arith) (omega arith)))
 
 -- 0 is absent
 pub at-zero : {A : Type 0} (d : A) (l : List A) {e : ℕ} → e ≤ 0 → at d l e ≡ d

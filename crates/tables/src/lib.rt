@@ -3,12 +3,12 @@
 // reads, and no others.
 ghost use mathlib.Core.Path.{_≡_};
 ghost use mathlib.Core.List.{List};
-ghost use Prim.Native.Nat.{ℕ, _*_, min};
+ghost use Prim.Native.Nat.{ℕ, _+_, _-_, _*_, min};
 ghost use lib.Dec.{eqb};
-ghost use Rattle.lists.specs.Lists.{at, any};
+ghost use Rattle.lists.specs.Lists.{at, any, there};
 ghost use Rattle.values.specs.declared.Ty.the-variants.{Void as void};
 ghost use Rattle.programs.specs.Sizes.{KINDS, EVENTS, VARIABLES, EXPRS, STMTS, ACTIONS, STATES};
-ghost use Rattle.tables.specs.Decode.{count, tyOf, eventsOf, variablesOf, actionsOf, statesOf, noVariable, noAction, noState};
+ghost use Rattle.tables.specs.Decode.{MOVES, count, tyOf, eventsOf, variablesOf, actionsOf, statesOf, noVariable, noAction, noState};
 use values::Ty;
 
 // A machine kind's number: the wrapping keeps it apart from a live machine's.
@@ -114,6 +114,54 @@ pub fn byte(x: u16) -> u8
     ensures { λ r. ⌜ r ≡ min x 255 ⌝ }
 {
     if x <= 255 { x as u8 } else { 255 }
+}
+
+// A number of 16 bits, as an index.
+pub fn wide(x: u16) -> usize
+    ensures { λ r. ⌜ r ≡ x ⌝ }
+{
+    x as usize
+}
+
+// A byte, as an index.
+pub fn index(x: u8) -> usize
+    ensures { λ r. ⌜ r ≡ x ⌝ }
+{
+    x as usize
+}
+
+// Whether number n is there in a table of the size given.
+pub fn there(size: usize, n: usize) -> bool
+    ensures { λ r. ⌜ r ≡ there size n ⌝ }
+{
+    if n < 1 {
+        return false;
+    }
+    n <= size
+}
+
+// How many rows there are of n from row a on, from 0: no more than a table of the size given has.
+pub fn rows_from(size: usize, a: usize, n: usize) -> usize
+    ensures { λ r. ⌜ r ≡ min n (size - a) ⌝ }
+{
+    if size <= a {
+        return 0;
+    }
+    if n <= size - a { n } else { size - a }
+}
+
+// The row behind a moves and b more: no further than the table's end.
+pub fn row_after(a: usize, b: usize) -> usize
+    ensures { λ r. ⌜ r ≡ min (a + b) MOVES ⌝ }
+{
+    if Program::MOVES <= a {
+        return Program::MOVES;
+    }
+    if b <= Program::MOVES - a {
+        a + b
+    } else {
+        Program::MOVES
+    }
 }
 
 // How many rows a table has: its count, and no more than its size.

@@ -1,7 +1,7 @@
 -- One more variable: what the code tests is what is asked of the line, there is room for it where its kind is there, and what the arrays hold with it.
 use Prim.Native.Nat.{ℕ, zero, suc, _+_, _*_, _≤_, _<_, min}
 use mathlib.Core.Path.{_≡_, refl, ap, sym, _∙_}
-use mathlib.Core.Bool.{Bool, true, false, not, cond, _&&_, _||_}
+use mathlib.Core.Bool.{Bool, true, false, not, _&&_, _||_}
 use mathlib.Core.List.{List, [], _∷_, _++_}
 use mathlib.Core.Logic.{dite}
 use native.Mathlib.Decide.{ℕ-discrete}
@@ -11,10 +11,10 @@ use borrow.Author.Tests.{eqb-true, eq-eqb, ne-eqb, ltb-true}
 use lib.Dec.{eqb, ltb}
 use lib.ListN.{length, getD, length-append, List·getD-append}
 use lib.Seq.{getD-append-seam}
-use Rattle.lists.specs.Lists.{All, There, there, keep, push, at}
+use Rattle.lists.specs.Lists.{All, There, there, keep, at}
 use Rattle.lists.specs.Facts.{All-append, All-at}
-use Rattle.lists.specs.Keep.{keep-append, keep-length}
-use Rattle.lists.specs.Tells.{form, agree, denied, there-is}
+use Rattle.lists.specs.Keep.{keep-snoc, keep-length}
+use Rattle.lists.specs.Tells.{denied, there-is}
 use Rattle.values.specs.declared.Ty.the-variants.{Bool as bool}
 use Rattle.programs.specs.Sizes.{TEXT, KINDS, VARIABLES}
 use Rattle.programs.specs.Program.{Program, Variable, isOf}
@@ -24,40 +24,17 @@ use Rattle.tabled.specs.Tabled.{wordOf, tyCode}
 use Rattle.numerals.specs.Numerals.{CAP, equal-cut}
 use Rattle.putting.specs.Asked.{VariableTables}
 use Rattle.putting.specs.Words.{word-kept}
+use Rattle.standing.specs.Alike.{cut-there}
 use Rattle.standing.specs.Absent.{few-variables}
 use Rattle.taking.specs.Variables.{FirstAbsent, VariablesHeld}
 use Rattle.taking.specs.Entered.{Countable, Counted, EnterAsked, Entered}
 
 -- THE CUT NUMBERS
--- the cut of a kind is there where the kind is
-pub there-cut : (ms k : ℕ) → ms ≤ KINDS → there ms (min k CAP) ≡ there ms k
-there-cut ms k h =
-    agree (there ms (min k CAP)) (there ms k)
-    (form (there-is ms (min k CAP)) (λ b. (omega (arith, b .0), omega (arith, b .1))) (λ b. (omega (arith, b .0), omega (arith, b .1))))
-    (there-is ms k)
-
--- and is it then
-uncut : (ms k : ℕ) → ms ≤ KINDS → There ms k → min k CAP ≡ k
-uncut ms k h b = omega (arith, b .0, b .1)
-
 -- the cut of a number, by what it is
 pub cut-of : {k j x : ℕ} → j ≡ k → x ≡ min j CAP → x ≡ min k CAP
 cut-of e c = rw (← e) c
 
--- out of range, whatever its own number
-pub crowded : (b : Bool) {t : Bool} → t ≡ false → b && t ≡ false
-crowded true e = e
-crowded false e = refl
-
 -- ONE MORE IN A COUNT
--- the variables of kind k with one more
-kept-snoc : (k : ℕ) (vs : List Variable) (v : Variable) → length (keep (isOf k) (vs ++ v ∷ [])) ≡ length (keep (isOf k) vs) + cond (eqb (v .of) k) 1 0
-kept-snoc k vs v = ap length (keep-append (isOf k) vs (v ∷ [])) ∙ length-append (keep (isOf k) vs) (push (isOf k v) v []) ∙ go (isOf k v)
-  where
-    go : (b : Bool) → length (keep (isOf k) vs) + length (push b v []) ≡ length (keep (isOf k) vs) + cond b 1 0
-    go true = refl
-    go false = refl
-
 -- a kind that is there and has room has no more than it may with one more
 few-snoc : (ms : ℕ) (vs : List Variable) (v : Variable) → ((k : ℕ) → There ms k → length (keep (isOf k) vs) ≤ VARIABLES)
     → (There ms (v .of) → length (keep (isOf (v .of)) vs) < VARIABLES) → (k : ℕ) → There ms k → length (keep (isOf k) (vs ++ v ∷ [])) ≤ VARIABLES
@@ -67,8 +44,8 @@ few-snoc ms vs v few space k b = go (eqb (v .of) k) refl
     go true e =
         let q = eqb-true (v .of) k e in
         let l : length (keep (isOf k) vs) < VARIABLES = rw q at (space (rw q b)) in
-        omega (arith, (rw e at (kept-snoc k vs v)))
-    go false e = omega (arith, (rw e at (kept-snoc k vs v)), few k b)
+        omega (arith, (rw e at (keep-snoc (isOf k) vs v)))
+    go false e = omega (arith, (rw e at (keep-snoc (isOf k) vs v)), few k b)
 
 -- A PROGRAM of these kinds and variables
 abbrev ofThese : ℕ → List Variable → Program
@@ -91,8 +68,8 @@ module _ {vs : List Variable} {ms : ℕ} {owners holds rooms : List ℕ} {n abse
     room-told {k} a c e = e ∙ rw (c, a) (go (there ms k) refl)
       where
         go : (t : Bool) → there ms k ≡ t → not (there ms (min k CAP)) || ltb (getD rooms (min k CAP) 0) VARIABLES ≡ room ms k vs
-        go true q = let b = there-is ms k .holds q in rw (uncut ms k m b, h .counts k (omega (arith, b .1)))
-        go false q = rw (there-cut ms k m, q)
+        go true q = let b = there-is ms k .holds q in let e : min k CAP ≡ k = omega (arith, b .1) in rw (e, h .counts k (omega (arith, b .1)))
+        go false q = rw (cut-there ms CAP k (omega arith), q)
 
     -- where every kind is there and one more of kind k has room, the tables have
     space : absent ≡ 0 → (k : ℕ) → There ms k → length (keep (isOf k) vs) < VARIABLES → length vs < KINDS * VARIABLES
@@ -136,13 +113,13 @@ module _ {vs : List Variable} {ms : ℕ} {owners holds rooms : List ℕ} {n abse
 
   -- what the code finds of its kind
   found : there ms x ≡ there ms (v .of)
-  found = rw cut (there-cut ms (v .of) m)
+  found = rw cut (cut-there ms CAP (v .of) (omega arith))
 
   -- the counts
   counts-more : (j : ℕ) → j ≤ KINDS → getD rooms′ j 0 ≡ length (keep (isOf j) (vs ++ v ∷ []))
   counts-more j l =
       let e : eqb x j ≡ eqb (v .of) j = rw cut (sym (equal-cut (v .of) CAP j (omega arith))) in
-      counted .each j l ∙ rw (h .counts j l, e) (sym (kept-snoc j vs v))
+      counted .each j l ∙ rw (h .counts j l, e) (sym (keep-snoc (isOf j) vs v))
 
   -- what has come of it
   data Come : Type 0 where

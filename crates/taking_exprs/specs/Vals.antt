@@ -1,29 +1,16 @@
 -- The `val` of an int or a bool, cut: it is in range where the one of the text is, and then it is that one.
-use Prim.Native.Nat.{ℕ, _%_}
+use Prim.Native.Nat.{_%_}
 use mathlib.Core.Path.{_≡_, refl, ap, sym}
-use mathlib.Core.Option.{Option, none, some}
 use mathlib.Core.Bool.{Bool, true, false}
 use native.Mathlib.Omega.{arith}
 use borrow.Author.Tests.{ltb-true, ne-eqb}
 use lib.IntN.{ℤ, pos, negsuc}
-use Rattle.lists.specs.Lists.{onOpt}
 use Rattle.values.specs.Values.{inRange, checked}
 use Rattle.values.specs.declared.Value.the-variants.{Int as vint}
 use Rattle.codes.specs.Codes.{intCode, codeOf}
 use Rattle.codes.specs.Laws.{int-code-small}
 use Rattle.texts.specs.Forms.{isOne, zeroOrOne}
-use Rattle.numerals.specs.declared.Integer.the-variants.{Not as noInteger, Is as integer}
-use Rattle.numerals.specs.Numerals.{cut, cappedInt, range-cut, one-cut, zero-or-one-cut}
-
--- no integer counts as 0
-pub val-none : (o : Option ℤ) → noInteger ≡ cappedInt o → pos 0 ≡ cut (onOpt o (pos 0) (λ z. z))
-val-none none e = refl
-val-none (some m) e = absurd (let z : _≡_ {A = ℕ} 0 1 = cc in omega arith)
-
--- an integer is cut
-pub val-some : (o : Option ℤ) (n : ℤ) → integer n ≡ cappedInt o → n ≡ cut (onOpt o (pos 0) (λ z. z))
-val-some none n e = absurd (let z : _≡_ {A = ℕ} 0 1 = cc in omega arith)
-val-some (some m) n e = cc
+use Rattle.numerals.specs.Numerals.{cut, range-cut, one-cut, zero-or-one-cut}
 
 -- in range it is not cut
 whole : (v : ℤ) → inRange v ≡ true → cut v ≡ v

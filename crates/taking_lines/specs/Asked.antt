@@ -8,14 +8,14 @@ use lib.ListN.{length}
 use Rattle.lists.specs.Lists.{isSome}
 use Rattle.programs.specs.Sizes.{TEXT}
 use Rattle.texts.specs.Numbers.{numbers}
-use Rattle.texts.specs.Reading.{Tables}
+use Rattle.texts.specs.Reading.{Tables, startsOf}
 use Rattle.tables.specs.Decode.{MOVES}
 use Rattle.programs.specs.Program.{Move}
 use Rattle.tabled.specs.Tabled.{moveTable}
 use Rattle.putting.specs.Asked.{MoveRoom}
 use Rattle.spoken.specs.Spoken.{valueAt}
 use Rattle.taking_stmts.specs.Held.{PoolRoom}
-use Rattle.gathering.specs.Gathered.{variableLines, callLines, actLines, startLines, moveLines}
+use Rattle.gathering.specs.Gathered.{variableLines, callLines, actLines, moveLines}
 use Rattle.taking_lines.specs.Gathered.{Front, Back}
 
 -- of a line before the statements, in form number row
@@ -37,7 +37,7 @@ pub record BackAsked (s : List ℕ) (row : ℕ) (places stmts inits actors bodie
   pub few : 38 ≤ row → row ≤ 40 → length (moveLines lines) < MOVES
   pub no-call : row ≤ 38 → callLines lines ≡ []
   pub no-act : row ≤ 39 → actLines lines ≡ []
-  pub no-start : row ≤ 41 → startLines lines ≡ []
+  pub no-start : row ≤ 41 → startsOf lines ≡ []
 
 -- of a step, a call or an act
 pub record MovedAsked (row : ℕ) (moves : List ℕ) (steps calls acts : ℕ) : Type 0 where
@@ -69,7 +69,7 @@ pub record LineAsked (s : List ℕ) (row : ℕ) (places types owners holds rooms
   pub no-variable : row ≤ 5 → variableLines lines ≡ []
   pub no-call : row ≤ 38 → callLines lines ≡ []
   pub no-act : row ≤ 39 → actLines lines ≡ []
-  pub no-start : row ≤ 41 → startLines lines ≡ []
+  pub no-start : row ≤ 41 → startsOf lines ≡ []
 
 -- so of a line before the statements, and of one from them on
 module _ {s : List ℕ} {row : ℕ} {places types owners holds rooms exprs : List ℕ} {kinds variables absent : ℕ} {stmts inits actors bodies homes entries exits flags moves choices : List ℕ} {pairs steps calls acts start count : ℕ} (h : LineAsked s row places types owners holds rooms exprs kinds variables absent stmts inits actors bodies homes entries exits flags moves choices pairs steps calls acts start count) where

@@ -8,13 +8,13 @@ use Rattle.programs.specs.Sizes.{EVENTS, KINDS, EXPRS, STMTS, ACTIONS, STATES, 
 use Rattle.programs.specs.declared.Expr.{Expr}
 use Rattle.programs.specs.Program.{Stmt, Action, State, Move}
 use Rattle.machines.specs.Config.{Choice}
-use Rattle.texts.specs.Reading.{Tables}
+use Rattle.texts.specs.Reading.{Tables, startsOf}
 use Rattle.tabled.specs.Tabled.{byteOf, eventTable, exprTable, moveTable, choiceTable}
 use Rattle.putting.specs.Asked.{ActionTables}
 use Rattle.taking.specs.Variables.{VariablesHeld}
 use Rattle.taking_stmts.specs.Held.{StmtTables}
 use Rattle.taking_states.specs.Held.{FlaggedTables}
-use Rattle.gathering.specs.Gathered.{eventLines, machineLines, variableLines, exprLines, stmtLines, actionLines, stateLines, stepLines, callLines, actLines, startLines, choiceLines}
+use Rattle.gathering.specs.Gathered.{eventLines, machineLines, variableLines, exprLines, stmtLines, actionLines, stateLines, stepLines, callLines, actLines, choiceLines}
 
 -- the kind that `start` names, and one more; 0 where there is none
 abbrev pub startWord : List ℕ → ℕ
@@ -77,5 +77,5 @@ pub record Back (a : Tables) (stmts inits actors bodies homes entries exits flag
   pub actions : ActionsAre (actionLines a) actors bodies
   pub states : StatesAre (stateLines a) homes entries exits flags
   pub moved : MovesAre (stepLines a) (callLines a) (actLines a) moves steps calls acts
-  pub started : start ≡ startWord (startLines a)
+  pub started : start ≡ startWord (startsOf a)
   pub chosen : ChoicesAre (choiceLines a) choices count

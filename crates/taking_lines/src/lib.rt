@@ -1,6 +1,5 @@
 // One line of a text taken into the loader's arrays, where it is in range (answer 3): by its form to the function of its kind.
 use tables::Program;
-ghost use mathlib.Core.Path.{_≡_};
 ghost use Prim.Native.Nat.{_+_};
 ghost use Rattle.texts.specs.Reading.{put, ranged};
 ghost use Rattle.spoken.specs.Spoken.{lineAt};

@@ -10,11 +10,12 @@ use Rattle.lists.specs.Keep.{flat-snoc}
 use Rattle.rows.specs.Part.{put}
 use Rattle.programs.specs.Sizes.{STMTS}
 use Rattle.programs.specs.Program.{Stmt}
+use Rattle.soundness.specs.Asked.{initOf}
 use Rattle.tables.specs.Decode.{PAIRS}
 use Rattle.texts.specs.Numbers.{pairs}
 use Rattle.texts.specs.Forms.{stmtLine}
 use Rattle.texts.specs.Reading.{next}
-use Rattle.tabled.specs.Tabled.{wordOf, stmtRow, initsOf, stmtTable, pairRow, initPool}
+use Rattle.tabled.specs.Tabled.{wordOf, stmtRow, stmtTable, pairRow, initPool}
 use Rattle.numerals.specs.Numerals.{CAP}
 use Rattle.spoken.specs.Spoken.{valueAt, numberAt, pairsAt, lineAt}
 use Rattle.spoken.specs.Counted.{next-told, next-room}
@@ -29,7 +30,7 @@ use Rattle.taking_stmts.specs.Lines.{Plain, newAt, own-says}
 pub record StmtTables (ss : List Stmt) (stmts inits : List ℕ) (n : ℕ) : Type 0 where
   pub table : stmts ≡ stmtTable ss
   pub pool : inits ≡ initPool ss
-  pub count : n ≡ length (flat initsOf ss)
+  pub count : n ≡ length (flat initOf ss)
 
 -- STATEMENTS so far
 pub record StmtHeld (stmts inits : List ℕ) (n : ℕ) : Type 0 where
@@ -81,7 +82,7 @@ module _ {stmts inits : List ℕ} {n : ℕ} (h : StmtHeld stmts inits n) where
   plain-put {s} {places} {exit} {k} {i} {t} p e = record {
     table = e;
     pool = h .held .pool ∙ pairs-none (h .rows) t (p .inits);
-    count = rw (flat-snoc initsOf (h .rows) t, p .inits) (h .held .count ∙ ap length (sym (append-nil (flat initsOf (h .rows)))));
+    count = rw (flat-snoc initOf (h .rows) t, p .inits) (h .held .count ∙ ap length (sym (append-nil (flat initOf (h .rows)))));
   }
 
 -- A `new`
@@ -110,7 +111,7 @@ module _ {s places stmts inits : List ℕ} {n : ℕ} (h : NewRoom s places stmts
 
       -- its row
       pub new-row : {x y : ℕ} → x ≡ wordOf (numberAt s places 1) → y ≡ wordOf (numberAt s places 2)
-          → stmtRow (length (flat initsOf (h .rows))) (newAt s places) ≡ 2 ∷ x ∷ y ∷ n ∷ m ∷ []
+          → stmtRow (length (flat initOf (h .rows))) (newAt s places) ≡ 2 ∷ x ∷ y ∷ n ∷ m ∷ []
       new-row a b = rw (a, b, pairs-count, h .held .count)
 
       -- one more
@@ -119,5 +120,5 @@ module _ {s places stmts inits : List ℕ} {n : ℕ} (h : NewRoom s places stmts
         table = t;
         pool = p .stored ∙ ap (λ l. put (n * 2) (flat pairRow (pairList l)) inits) e ∙ ap (put (n * 2) (flat pairRow (pairsAt s places 3))) (h .held .pool)
             ∙ pairs-put (h .rows) (newAt s places) n (h .held .count) (h .pool .room);
-        count = rw (flat-snoc initsOf (h .rows) (newAt s places), length-append (flat initsOf (h .rows)) (pairsAt s places 3), ← h .held .count, pairs-count);
+        count = rw (flat-snoc initOf (h .rows) (newAt s places), length-append (flat initOf (h .rows)) (pairsAt s places 3), ← h .held .count, pairs-count);
       }

@@ -9,8 +9,9 @@ use native.Mathlib.Omega.{arith}
 use lib.Dec.{leb}
 use lib.ListN.{getD}
 use Rattle.programs.specs.Program.{Stmt, new}
+use Rattle.soundness.specs.Asked.{initOf}
 use Rattle.texts.specs.Forms.{stmtLine}
-use Rattle.tabled.specs.Tabled.{wordOf, stmtRow, initsOf}
+use Rattle.tabled.specs.Tabled.{wordOf, stmtRow}
 use Rattle.spoken.specs.Spoken.{numberAt, pairsAt, lineAt}
 
 -- the kind in each form, as the row has it
@@ -34,10 +35,10 @@ module _ (s places : List ℕ) where
   pub record Plain (k i : ℕ) (t : Stmt) : Type 0 where
     pub own : numberAt s places 0 ≡ i
     pub row : (n : ℕ) → stmtRow n t ≡ plainRow k
-    pub inits : initsOf t ≡ []
+    pub inits : initOf t ≡ []
 
   -- from the equation of a line
-  plain-told : (k : ℕ) {i : ℕ} {u t : Stmt} → stmtLine (numberAt s places 0) u ≡ stmtLine i t → ((n : ℕ) → stmtRow n u ≡ plainRow k) → initsOf u ≡ [] → Plain k i t
+  plain-told : (k : ℕ) {i : ℕ} {u t : Stmt} → stmtLine (numberAt s places 0) u ≡ stmtLine i t → ((n : ℕ) → stmtRow n u ≡ plainRow k) → initOf u ≡ [] → Plain k i t
   plain-told k {i} {u} {t} q r e = let p : u ≡ t = cc in record { own = cc; row = λ n. rw (← p) (r n); inits = rw (← p) e }
 
   -- in each form

@@ -8,7 +8,7 @@ use mathlib.Core.Bool.{Bool, true, false, not, cond, _&&_, _||_}
 use mathlib.Core.List.{List, [], _∷_, _++_, map}
 use lib.IntN.{ℤ, pos}
 use lib.ListN.{getD}
-use Rattle.lists.specs.Lists.{onOpt, any, all}
+use Rattle.lists.specs.Lists.{onOpt, any, all, same}
 use Rattle.values.specs.declared.Ty.{Ty}
 use Rattle.values.specs.declared.Ty.the-variants.{Void as void, Bool as bool, Int as int, Event as event, Id as id}
 use Rattle.values.specs.declared.Unary.the-variants.{Not as not′, Neg as neg}
@@ -19,7 +19,7 @@ use Rattle.programs.specs.declared.Expr.{Expr}
 use Rattle.programs.specs.declared.Leaf.the-variants.{Int as intVal, Bool as boolVal, Var as var, This as this, Msg as msg, Arg as arg, Bot as bot, Star as star}
 use Rattle.programs.specs.declared.Expr.the-variants.{Leaf as leaf, Unary as unary, Binary as binary}
 use Rattle.machines.specs.Config.{Choice}
-use Rattle.texts.specs.Bytes.{bytes, same, split}
+use Rattle.texts.specs.Bytes.{bytes, split}
 use Rattle.texts.specs.Numbers.{decimal, signed, numbers, pairs}
 
 -- a line with its own number, where its kind has one; of an expression also whether its `val` is in range

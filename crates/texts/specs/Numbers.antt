@@ -8,9 +8,9 @@ use mathlib.Core.Bool.{Bool, true, false, not, cond, _&&_}
 use mathlib.Core.List.{List, [], _∷_, map}
 use lib.Dec.{eqb, leb}
 use lib.IntN.{ℤ, pos, negℤ}
-use Rattle.lists.specs.Lists.{all}
+use Rattle.lists.specs.Lists.{all, same}
 use Rattle.soundness.specs.Asked.{ascending}
-use Rattle.texts.specs.Bytes.{bytes, same, split, both, each, only}
+use Rattle.texts.specs.Bytes.{bytes, split, both, each, only}
 
 -- '0' to '9'
 abbrev pub digit : ℕ → Bool

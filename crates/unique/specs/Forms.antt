@@ -10,10 +10,10 @@ use Rattle.programs.specs.declared.Expr.{Expr}
 use Rattle.programs.specs.Program.{Program, Variable, Stmt, Action, State, Move}
 use Rattle.tables.specs.declared.Kind.{Kind}
 
--- CONTRACTS `r ≡ definition of the arguments`: values (checked, apply1, apply2, suits, int_of), codes (code, value_of, canonical), tables (the counts and
--- every look-up but the three of a kind), terms (expr_at, stmt_at), numbers (number), evaluation (eval), queues (room_for), lifting (lift), soundly (sound),
--- beginnings (initial_state), storing (number), owning (top_state, top_map), naming (there, both), doubling (either), faults (rows_from, row_after), marks
--- (pairs_from); copies (copy_u8, copy_u16, copy_u64) and marks (mark_low, mark_inner) of what they were lent. Where a bound
+-- CONTRACTS `r ≡ definition of the arguments`: values (checked, apply1, apply2, suits, int_of), codes (code, value_of, canonical), tables (all but
+-- the three look-ups of a kind), terms (expr_at, stmt_at), numbers (number), evaluation (eval), queues (holds, room_for), lifting (lift), soundly (sound),
+-- beginnings (initial_state), storing (number), owning (top_state, top_map), naming (both), doubling (either);
+-- copies (copy_u8, copy_u16, copy_u64, clear_u8, clear_u16, clear_u64) and marks (mark_low, mark_inner) of what they were lent. Where a bound
 -- stands beside the equation (faults: onward, joined, front) the equation alone decides
 pub one-result : {A : Type 0} (definition r s : A) → r ≡ definition → s ≡ definition → r ≡ s
 one-result definition r s p q = p ∙ sym q

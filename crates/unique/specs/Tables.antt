@@ -2,7 +2,7 @@
 use Prim.Native.Nat.{ℕ, zero, suc, _+_, _*_, _/_, _%_, _≤_, _<_}
 use mathlib.Core.Path.{_≡_, refl, sym, _∙_}
 use mathlib.Core.Logic.{dite}
-use mathlib.Core.Bool.{Bool, true, false, true≢false, not}
+use mathlib.Core.Bool.{Bool, true, false, true≢false, not, Bool·not-not}
 use mathlib.Core.List.{List, []}
 use native.Mathlib.Omega.{arith}
 use native.Mathlib.Decide.{ℕ-discrete}
@@ -11,7 +11,6 @@ use lib.Dec.{eqb}
 use lib.ListN.{length, getD}
 use lib.Seq.{ext-getD}
 use Rattle.lists.specs.Lists.{any, keep, push, There, there}
-use Rattle.lists.specs.Facts.{not-not}
 use Rattle.lists.specs.Tells.{Tells, there-is}
 use Rattle.rows.specs.Seek.{table}
 use Rattle.programs.specs.Program.{Program, Move, Variable}
@@ -175,4 +174,4 @@ named-one seen names size r s l m h k = (h .tells p before marks ∙ sym (k .tel
     before = markedFrom seen 0 65536
 
     marks : Seen seen before
-    marks = record { size = size; mark = λ x b. sym (rw (marked-at seen x 0 65536 (omega arith) b) (not-not (eqb (getD seen x 0) 0))) }
+    marks = record { size = size; mark = λ x b. sym (rw (marked-at seen x 0 65536 (omega arith) b) (Bool·not-not (eqb (getD seen x 0) 0))) }

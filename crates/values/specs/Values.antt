@@ -62,26 +62,28 @@ undefined-left sub y = refl
 undefined-left and y = refl
 undefined-left or y = refl
 
-no-int : (x : Value) → withInt x (λ a. undefined) ≡ undefined
-no-int undefined = refl
-no-int (vbool b) = refl
-no-int (vint z) = refl
-no-int (vevent e) = refl
-no-int (vid i) = refl
+-- what holds of undefined, and of what k gives of every int, holds of what it gives of any value;
+pub int-given : (P : Value → Type 0) → P undefined → (x : Value) (k : ℤ → Value) → ((z : ℤ) → P (k z)) → P (withInt x k)
+int-given P u undefined k h = u
+int-given P u (vbool b) k h = u
+int-given P u (vint z) k h = h z
+int-given P u (vevent e) k h = u
+int-given P u (vid i) k h = u
 
-no-bool : (x : Value) → withBool x (λ a. undefined) ≡ undefined
-no-bool undefined = refl
-no-bool (vbool b) = refl
-no-bool (vint z) = refl
-no-bool (vevent e) = refl
-no-bool (vid i) = refl
+-- the same of a bool
+pub bool-given : (P : Value → Type 0) → P undefined → (x : Value) (k : Bool → Value) → ((b : Bool) → P (k b)) → P (withBool x k)
+bool-given P u undefined k h = u
+bool-given P u (vbool b) k h = h b
+bool-given P u (vint z) k h = u
+bool-given P u (vevent e) k h = u
+bool-given P u (vid i) k h = u
 
 -- and on the right
 pub undefined-right : (o : Binary) (x : Value) → apply2 o x undefined ≡ undefined
-undefined-right add x = no-int x
-undefined-right sub x = no-int x
-undefined-right and x = no-bool x
-undefined-right or x = no-bool x
+undefined-right add x = int-given (λ v. v ≡ undefined) refl x _ (λ a. refl)
+undefined-right sub x = int-given (λ v. v ≡ undefined) refl x _ (λ a. refl)
+undefined-right and x = bool-given (λ v. v ≡ undefined) refl x _ (λ a. refl)
+undefined-right or x = bool-given (λ v. v ≡ undefined) refl x _ (λ a. refl)
 
 -- Answer 15: "a value neither undefined nor of the wanted type ...; void wants undefined". A value suits when it is not so.
 abbrev pub suits : Ty → Value → Bool

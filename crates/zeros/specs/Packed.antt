@@ -5,8 +5,8 @@ use mathlib.Core.Path.{_≡_, refl, ap, sym, _∙_}
 use mathlib.Core.Logic.{⊎-elim}
 use mathlib.Core.List.{List, [], _∷_, _++_, reverse, reverse-cons}
 use native.Mathlib.Omega.{arith}
-use lib.ListN.{length, take, getD, replicate, length-replicate, getD-replicate, List·getD-eq-default}
-use lib.Seq.{ext-getD, take-suc, getD-take, length-take-le}
+use lib.ListN.{length, take, getD, List·getD-eq-default}
+use lib.Seq.{take-suc, getD-take, length-take-le}
 use Rattle.rows.specs.Pad.{below?, pad, pad-get, pad-ext}
 use Rattle.rows.specs.Part.{part, part-length, part-get}
 use Rattle.configs.specs.Decode.{downTo}
@@ -19,11 +19,6 @@ reverse-down (suc n) xs h =
     reverse-cons (getD xs n 0) (downTo (λ k. getD xs k 0) n)
     ∙ ap (λ (l : List ℕ). l ++ (getD xs n 0 ∷ [])) (reverse-down n xs (omega arith))
     ∙ sym (take-suc xs n 0 h)
-
--- a whole run of zeros
-pub zeros-replicate : (n : ℕ) (xs : List ℕ) → length xs ≡ n → ((k : ℕ) → k < n → getD xs k 0 ≡ 0) → xs ≡ replicate n 0
-zeros-replicate n xs e z = ext-getD 0 xs (replicate n 0) (e ∙ sym (length-replicate n 0))
-    (λ k h. z k (omega arith) ∙ sym (getD-replicate n k 0 0 (omega arith)))
 
 module _ (b w n : ℕ) (xs : List ℕ) (inside : b + w ≤ length xs) (fits : n ≤ w) where
   -- the row has its w places,

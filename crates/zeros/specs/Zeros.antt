@@ -1,13 +1,12 @@
 -- A run of zeros in a list, and the loop that looks for one: it keeps the greatest number that it has seen.
 use Prim.Native.Nat.{ℕ, _+_, _≤_, _<_}
 use mathlib.Core.Path.{_≡_, refl}
-use mathlib.Core.Logic.{dite}
 use mathlib.Core.List.{List}
 use native.Mathlib.Omega.{arith}
-use native.Mathlib.Decide.{ℕ-discrete}
 use lib.Dec.{eqb}
 use lib.ListN.{length, getD}
 use Rattle.lists.specs.Tells.{Tells, form, equal}
+use Rattle.lists.specs.Facts.{range-more}
 
 -- A RUN OF ZEROS
 -- the places from `from` on, up to `to`
@@ -33,7 +32,7 @@ seen-none r = record { low = omega arith; high = r .ordered; so-far = λ e k a b
 module _ {xs : List ℕ} {from to most k : ℕ} (seen : Seen xs from to most k) where
   -- one more place
   more : getD xs k 0 ≡ 0 → Zeros from k xs → Zeros from (k + 1) xs
-  more e z j a b = dite (ℕ-discrete j k) (λ q. rw q e) (λ q. z j a (omega arith))
+  more e z = range-more (λ j. getD xs j 0 ≡ 0) from k z e
 
   -- a turn that meets a greater number
   pub seen-greater : k < to → most < getD xs k 0 → Seen xs from to (getD xs k 0) (k + 1)

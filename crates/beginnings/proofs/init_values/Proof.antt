@@ -29,8 +29,8 @@ wide-requires c κs = search needs
 wide-requires-2 : tie.Need-wide-requires-2 Inv-loop μ-loop
 wide-requires-2 c κs = search needs
 
-pairs-there-requires : tie.Need-pairs-there-requires Inv-loop μ-loop
-pairs-there-requires c κs = search needs
+rows-from-requires : tie.Need-rows-from-requires Inv-loop μ-loop
+rows-from-requires c κs = search needs
 
 loop-holds : tie.Need-loop-holds Inv-loop μ-loop
 loop-holds c = (omega arith, λ q. inits-none q)
@@ -84,10 +84,13 @@ value-of-requires c κs = search needs
 suits-requires : tie.Need-suits-requires Inv-loop μ-loop
 suits-requires c κs = search needs
 
-clear-requires : tie.Need-clear-requires Inv-loop μ-loop
-clear-requires c κs =
+add-clear-u64 : tie.Need-add-clear-u64 Inv-loop μ-loop
+add-clear-u64 c = search needs
+
+clear-u64-requires : tie.Need-clear-u64-requires Inv-loop μ-loop
+clear-u64-requires c κs =
     let l = c .before .before .before .before .before .before .before .before .before .before .before in
-    l .loop .inv .1 (l .before .before .before .before .pre) .written .size
+    omega (arith, l .loop .inv .1 (l .before .before .before .before .pre) .written .size)
 
 returns : tie.Need-returns Inv-loop μ-loop
 returns c =
@@ -103,9 +106,9 @@ returns c =
     let p = l .before in
     let s = p .before .before .before in
     let first = p .before .before .wide .ensures in
-    λ q. inits-wrong q (l .loop .j) (omega (arith, pairs-length (s .args .inits .now) (s .args .z) (s .args .n), p .pairs-there .ensures, p .before .wide2 .ensures, first, test .loop-test .taken)) (l .loop .rest) (eval .eval .result) (l .loop .out)
+    λ q. inits-wrong q (l .loop .j) (omega (arith, pairs-length (s .args .inits .now) (s .args .z) (s .args .n), p .rows-from .ensures, p .before .wide2 .ensures, first, test .loop-test .taken)) (l .loop .rest) (eval .eval .result) (l .loop .out)
     (l .loop .inv .1 q) (rw (e .wide4 .ensures, first) at (eval .eval .ensures))
-    (sym (not-true (suit .suits .result) (wrong .if1 .taken)) ∙ rw (type .variable-type .ensures, value .value-of .ensures, x .wide3 .ensures, first) at (suit .suits .ensures)) _ (c .clear .ensures)
+    (sym (not-true (suit .suits .result) (wrong .if1 .taken)) ∙ rw (type .variable-type .ensures, value .value-of .ensures, x .wide3 .ensures, first) at (suit .suits .ensures)) _ (c .clear-u64 .ensures)
 
 element-copy-out-index : tie.Need-element-copy-out-index Inv-loop μ-loop
 element-copy-out-index c =
@@ -113,7 +116,7 @@ element-copy-out-index c =
     let p = l .before in
     let s = p .before .before .before in
     let x = c .before .before .before .before .before .before .before in
-    let b = variable-small (s .pre) (l .loop .j) (omega (arith, pairs-length (s .args .inits .now) (s .args .z) (s .args .n), p .pairs-there .ensures, p .before .wide2 .ensures, p .before .before .wide .ensures, l .loop .inv .0)) in
+    let b = variable-small (s .pre) (l .loop .j) (omega (arith, pairs-length (s .args .inits .now) (s .args .z) (s .args .n), p .rows-from .ensures, p .before .wide2 .ensures, p .before .before .wide .ensures, l .loop .inv .0)) in
     rw (x .wide3 .ensures, p .before .before .wide .ensures) b
 
 index-requires : tie.Need-index-requires Inv-loop μ-loop
@@ -126,7 +129,7 @@ stored c =
     let p = l .before in
     let s = p .before .before .before in
     let x = c .before .before .before .before .before .before .before .before .before in
-    let b : getD (now (s .args .places)) (getD (now (s .args .inits)) ((s .args .z + l .loop .j) * 2) 0) 0 < 16 = place-small (s .pre) (l .loop .j) (omega (arith, pairs-length (s .args .inits .now) (s .args .z) (s .args .n), p .pairs-there .ensures, p .before .wide2 .ensures, p .before .before .wide .ensures, l .loop .inv .0)) in
+    let b : getD (now (s .args .places)) (getD (now (s .args .inits)) ((s .args .z + l .loop .j) * 2) 0) 0 < 16 = place-small (s .pre) (l .loop .j) (omega (arith, pairs-length (s .args .inits .now) (s .args .z) (s .args .n), p .rows-from .ensures, p .before .wide2 .ensures, p .before .before .wide .ensures, l .loop .inv .0)) in
     rw (c .index .ensures, x .wide3 .ensures, p .before .before .wide .ensures) b
 
 mul-out : tie.Need-mul-out Inv-loop μ-loop
@@ -156,7 +159,7 @@ loop-again c =
     let s = p .before .before .before in
     let first = p .before .before .wide .ensures in (
       omega arith,
-      λ q. rw (c .index .ensures, x .wide3 .ensures, first) (inits-more q (l .loop .j) (omega (arith, pairs-length (s .args .inits .now) (s .args .z) (s .args .n), p .pairs-there .ensures, p .before .wide2 .ensures, first, test .loop-test .taken)) (l .loop .rest) (eval .eval .result) (l .loop .out)
+      λ q. rw (c .index .ensures, x .wide3 .ensures, first) (inits-more q (l .loop .j) (omega (arith, pairs-length (s .args .inits .now) (s .args .z) (s .args .n), p .rows-from .ensures, p .before .wide2 .ensures, first, test .loop-test .taken)) (l .loop .rest) (eval .eval .result) (l .loop .out)
           (l .loop .inv .1 q) (rw (e .wide4 .ensures, first) at (eval .eval .ensures))
           (sym (not-false (suit .suits .result) (test₀ .if1 .left)) ∙ rw (type .variable-type .ensures, value .value-of .ensures, x .wide3 .ensures, first) at (suit .suits .ensures))),
     )
@@ -166,7 +169,7 @@ returns-2 c =
     let l = c .before in
     let p = l .before in
     let s = p .before .before .before in
-    λ q. inits-all q (l .loop .j) (l .loop .rest) (l .loop .out) (l .loop .inv .1 q) (omega (arith, pairs-length (s .args .inits .now) (s .args .z) (s .args .n), p .pairs-there .ensures, p .before .wide2 .ensures, p .before .before .wide .ensures, c .loop-test .left))
+    λ q. inits-all q (l .loop .j) (l .loop .rest) (l .loop .out) (l .loop .inv .1 q) (omega (arith, pairs-length (s .args .inits .now) (s .args .z) (s .args .n), p .rows-from .ensures, p .before .wide2 .ensures, p .before .before .wide .ensures, c .loop-test .left))
 
 pub init-values-spec : {M : Type 1} → statement M
 init-values-spec =
@@ -178,7 +181,7 @@ init-values-spec =
     mul-at
     wide-requires
     wide-requires-2
-    pairs-there-requires
+    rows-from-requires
     loop-holds
     add-wide
     mul-wide
@@ -195,7 +198,8 @@ init-values-spec =
     variable-type-requires
     value-of-requires
     suits-requires
-    clear-requires
+    add-clear-u64
+    clear-u64-requires
     returns
     element-copy-out-index
     index-requires

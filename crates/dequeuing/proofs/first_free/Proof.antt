@@ -1,16 +1,17 @@
 -- `dequeuing::first_free` meets its contract: after j turns the first j pairs are held back. Assumes nothing.
 use Prim.Native.Nat.{ℕ, _-_, _≤_, _<_}
 use mathlib.Core.Path.{_≡_, sym, ap, _∙_}
-use mathlib.Core.Bool.{true, not}
+use mathlib.Core.Bool.{true}
 use mathlib.Core.List.{List}
 use native.Mathlib.Omega.{arith}
 use lib.ListN.{length, getD}
-use Rattle.lists.specs.Facts.{not-not, not-true}
 use Rattle.programs.specs.Program.{Program}
 use Rattle.machines.specs.Maps.{heldBack}
 use Rattle.maps.specs.Maps.{Tables, mapAt}
 use borrow.Author.Needs.{needs}
-use Rattle.dequeuing.specs.Search.{eventAt, search-asked, held-more}
+use borrow.Author.Tests.{not-true, not-false}
+use borrow.Author.Count.{below-more}
+use Rattle.dequeuing.specs.Search.{eventAt, search-asked}
 use Rattle.dequeuing.proofs.first_free.Statement.{statement}
 use Rattle.dequeuing.proofs.first_free.Tie as tie
 
@@ -80,8 +81,8 @@ loop-again c =
     let j : l .j < getD (a .waiting .now) (a .k) 0 = c .before .before .before .before .loop-test .taken in
     let q : c .before .before .event .result ≡ eventAt (a .k) (a .pairs .now) (l .j) = c .before .before .event .ensures in (
       omega arith,
-      λ p entries exits t h. held-more (λ i. heldBack p (a .n) (mapAt p (a .b) (a .maps .now)) (eventAt (a .k) (a .pairs .now) i)) (l .j) (l .inv .1 p entries exits t h)
-          (ap (heldBack p (a .n) (mapAt p (a .b) (a .maps .now))) (sym q) ∙ sym (c .before .held-back .ensures p entries exits t (rw q (h (l .j) j))) ∙ sym (not-not (c .before .held-back .result)) ∙ ap not (c .if1 .left)),
+      λ p entries exits t h. below-more (λ i. heldBack p (a .n) (mapAt p (a .b) (a .maps .now)) (eventAt (a .k) (a .pairs .now) i) ≡ true) (l .j) (l .inv .1 p entries exits t h)
+          (ap (heldBack p (a .n) (mapAt p (a .b) (a .maps .now))) (sym q) ∙ sym (c .before .held-back .ensures p entries exits t (rw q (h (l .j) j))) ∙ not-false (c .before .held-back .result) (c .if1 .left)),
     )
 
 returns-2 : tie.Need-returns-2 Inv-loop μ-loop

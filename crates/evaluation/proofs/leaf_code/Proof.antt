@@ -1,5 +1,4 @@
 -- `evaluation::leaf_code` meets its contract: in each arm by what the leaf is. Assumes nothing.
-use Prim.Native.Nat.{_<_}
 use mathlib.Core.Path.{refl, sym, ap, _∙_}
 use native.Mathlib.Omega.{arith}
 use borrow.Author.Needs.{needs}

@@ -3,7 +3,8 @@ use mathlib.Core.Path.{ap}
 use Rattle.programs.specs.Statements.{exprsOf}
 use Rattle.tables.specs.Decode.{stmtOf}
 use Rattle.marks.proofs.Arms.{no-exprs}
-use Rattle.expr_marks.specs.Naming.{names-none, names-one, names-two, names-told}
+use Rattle.marks.specs.Flow.{marks-none, marks-one, marks-two}
+use Rattle.expr_marks.specs.Naming.{names-told}
 use borrow.Author.Needs.{needs}
 use Rattle.expr_marks.proofs.mark_named.Statement.{statement}
 use Rattle.expr_marks.proofs.mark_named.Tie as tie
@@ -57,7 +58,7 @@ returns : tie.Need-returns
 returns c =
     let a = c .before .before .before .before .before .args in
     let g = c .before .before .before .h .given in
-    names-one (a .b) (a .n) (exprsOf (stmtOf (a .inits .now) (a .h))) _ _ _ (ap (λ h. exprsOf (stmtOf (a .inits .now) h)) (g .1)) (c .mark-low .ensures)
+    marks-one (a .b) (a .n) (exprsOf (stmtOf (a .inits .now) (a .h))) _ _ _ (ap (λ h. exprsOf (stmtOf (a .inits .now) h)) (g .1)) (c .mark-low .ensures)
 
 returns-2 : tie.Need-returns-2
 returns-2 c =
@@ -68,36 +69,36 @@ returns-3 : tie.Need-returns-3
 returns-3 c =
     let a = c .before .before .before .before .before .before .before .args in
     let g = c .before .before .before .before .before .h3 .given in
-    names-two (a .b) (a .n) (exprsOf (stmtOf (a .inits .now) (a .h))) _ _ _ _ _ (ap (λ h. exprsOf (stmtOf (a .inits .now) h)) (g .1)) (c .before .before .mark-low2 .ensures) (c .mark-low3 .ensures)
+    marks-two (a .b) (a .n) (exprsOf (stmtOf (a .inits .now) (a .h))) _ _ _ _ _ (ap (λ h. exprsOf (stmtOf (a .inits .now) h)) (g .1)) (c .before .before .mark-low2 .ensures) (c .mark-low3 .ensures)
 
 returns-4 : tie.Need-returns-4
 returns-4 c =
     let a = c .before .before .before .before .before .args in
     let g = c .before .before .before .h4 .given in
-    names-one (a .b) (a .n) (exprsOf (stmtOf (a .inits .now) (a .h))) _ _ _ (ap (λ h. exprsOf (stmtOf (a .inits .now) h)) (g .1)) (c .mark-low4 .ensures)
+    marks-one (a .b) (a .n) (exprsOf (stmtOf (a .inits .now) (a .h))) _ _ _ (ap (λ h. exprsOf (stmtOf (a .inits .now) h)) (g .1)) (c .mark-low4 .ensures)
 
 returns-5 : tie.Need-returns-5
 returns-5 c =
     let a = c .before .before .before .before .before .args in
     let g = c .before .before .before .h5 .given in
-    names-one (a .b) (a .n) (exprsOf (stmtOf (a .inits .now) (a .h))) _ _ _ (ap (λ h. exprsOf (stmtOf (a .inits .now) h)) (g .1)) (c .mark-low5 .ensures)
+    marks-one (a .b) (a .n) (exprsOf (stmtOf (a .inits .now) (a .h))) _ _ _ (ap (λ h. exprsOf (stmtOf (a .inits .now) h)) (g .1)) (c .mark-low5 .ensures)
 
 returns-6 : tie.Need-returns-6
 returns-6 c =
     let a = c .before .before .before .before .before .args in
     let g = c .before .before .before .h6 .given in
-    names-one (a .b) (a .n) (exprsOf (stmtOf (a .inits .now) (a .h))) _ _ _ (ap (λ h. exprsOf (stmtOf (a .inits .now) h)) (g .1)) (c .mark-low6 .ensures)
+    marks-one (a .b) (a .n) (exprsOf (stmtOf (a .inits .now) (a .h))) _ _ _ (ap (λ h. exprsOf (stmtOf (a .inits .now) h)) (g .1)) (c .mark-low6 .ensures)
 
 returns-7 : tie.Need-returns-7
 returns-7 c =
     let a = c .before .before .before .before .before .args in
     let g = c .before .before .before .h7 .given in
-    names-one (a .b) (a .n) (exprsOf (stmtOf (a .inits .now) (a .h))) _ _ _ (ap (λ h. exprsOf (stmtOf (a .inits .now) h)) (g .1)) (c .mark-low7 .ensures)
+    marks-one (a .b) (a .n) (exprsOf (stmtOf (a .inits .now) (a .h))) _ _ _ (ap (λ h. exprsOf (stmtOf (a .inits .now) h)) (g .1)) (c .mark-low7 .ensures)
 
 returns-8 : tie.Need-returns-8
 returns-8 c =
     let a = c .before .args in
-    names-none (a .b) (a .n) (exprsOf (stmtOf (a .inits .now) (a .h))) _ (no-exprs (a .inits .now) (a .h) (c .match .keys8))
+    marks-none (a .b) (a .n) (exprsOf (stmtOf (a .inits .now) (a .h))) _ (no-exprs (a .inits .now) (a .h) (c .match .keys8))
 
 pub mark-named-spec : {M : Type 1} → statement M
 mark-named-spec =

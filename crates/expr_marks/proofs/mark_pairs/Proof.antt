@@ -15,13 +15,13 @@ Inv-loop inits b n i c marks₀ a m j₀ marks j =
 abbrev μ-loop : tie.MeasureT-loop
 μ-loop inits b n i c marks₀ a m j₀ marks j = m - j
 
-pairs-from-requires : tie.Need-pairs-from-requires Inv-loop μ-loop
-pairs-from-requires c κs = search needs
+rows-from-requires : tie.Need-rows-from-requires Inv-loop μ-loop
+rows-from-requires c κs = search needs
 
 loop-holds : tie.Need-loop-holds Inv-loop μ-loop
 loop-holds c =
     let a = c .before .args in
-    (omega arith, omega (arith, c .pairs-from .ensures), pairs-first (a .b) (a .n) (a .inits .now) (a .i) (c .pairs-from .result) (a .marks .now))
+    (omega arith, omega (arith, c .rows-from .ensures), pairs-first (a .b) (a .n) (a .inits .now) (a .i) (c .rows-from .result) (a .marks .now))
 
 add-e : tie.Need-add-e Inv-loop μ-loop
 add-e c = search needs
@@ -51,14 +51,14 @@ loop-again : tie.Need-loop-again Inv-loop μ-loop
 loop-again c =
     let t = c .before .before .before in
     let l = t .before .loop in
-    let m = t .before .before .pairs-from .result in
+    let m = t .before .before .rows-from .result in
     let a = t .before .before .before .args in
     (omega (arith, t .loop-test .taken), l .inv .1, pairs-turn (a .b) (a .n) (a .inits .now) (a .i) m (l .j) (l .marks) _ _ (t .loop-test .taken) (l .inv .2) (c .mark-low .ensures))
 
 returns : tie.Need-returns Inv-loop μ-loop
 returns c =
     let l = c .before .loop in
-    let m = c .before .before .pairs-from in
+    let m = c .before .before .rows-from in
     let a = c .before .before .before .args in
     pairs-done (a .b) (a .n) (a .inits .now) (a .i) (m .result) (l .j) (a .c) (l .marks) (a .marks .now) (c .loop-test .left) (m .ensures) (l .inv .2)
 
@@ -68,7 +68,7 @@ mark-pairs-spec =
     (tie.spec
     Inv-loop
     μ-loop
-    pairs-from-requires
+    rows-from-requires
     loop-holds
     add-e
     mul-e

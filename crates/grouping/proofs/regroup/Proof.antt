@@ -1,8 +1,7 @@
 -- `grouping::regroup` meets its contract: a program that is not sound is refused.
 use mathlib.Core.Path.{sym, _∙_}
 use borrow.Author.Needs.{needs}
-use borrow.Author.Tests.{not-false}
-use Rattle.lists.specs.Facts.{not-true}
+use borrow.Author.Tests.{not-false, not-true}
 use Rattle.soundness.specs.Sound.{sound-is}
 use Rattle.grouping.specs.Grouping.{group-unsound}
 use Rattle.grouping.proofs.regroup.Statement.{statement}

@@ -15,13 +15,13 @@ Inv-loop moves a n j says₀ m i₀ says i = (i ≤ m) × (m ≤ 4096 - a) × (s
 abbrev μ-loop : tie.MeasureT-loop
 μ-loop moves a n j says₀ m i₀ says i = i
 
-moves-from-requires : tie.Need-moves-from-requires Inv-loop μ-loop
-moves-from-requires c κs = search needs
+rows-from-requires : tie.Need-rows-from-requires Inv-loop μ-loop
+rows-from-requires c κs = search needs
 
 loop-holds : tie.Need-loop-holds Inv-loop μ-loop
 loop-holds c =
     let a = c .before .args in
-    (omega arith, omega (arith, c .moves-from .ensures), stored-none (a .moves .now) (a .says .now) (a .j) (a .a) (c .moves-from .result))
+    (omega arith, omega (arith, c .rows-from .ensures), stored-none (a .moves .now) (a .says .now) (a .j) (a .a) (c .rows-from .result))
 
 sub-i : tie.Need-sub-i Inv-loop μ-loop
 sub-i c = search needs
@@ -57,7 +57,7 @@ loop-again : tie.Need-loop-again Inv-loop μ-loop
 loop-again c =
     let t = c .before .before .before .before .before in
     let l = t .before .loop in
-    let m = t .before .before .moves-from .result in
+    let m = t .before .before .rows-from .result in
     let a = t .before .before .before .args in (
       omega (arith, l .inv .0),
       l .inv .1,
@@ -70,7 +70,7 @@ returns c =
     let l = c .before .loop in
     let a = c .before .before .before .args in
     let p : a .a + l .i ≡ a .a = omega (arith, c .loop-test .left) in
-    let q : c .before .before .moves-from .result - l .i ≡ min (a .n) (4096 - a .a) = omega (arith, c .loop-test .left, c .before .before .moves-from .ensures) in
+    let q : c .before .before .rows-from .result - l .i ≡ min (a .n) (4096 - a .a) = omega (arith, c .loop-test .left, c .before .before .rows-from .ensures) in
     rw (p, q) at (l .inv .2)
 
 pub store-moves-spec : {M : Type 1} → statement M
@@ -79,7 +79,7 @@ store-moves-spec =
     (tie.spec
     Inv-loop
     μ-loop
-    moves-from-requires
+    rows-from-requires
     loop-holds
     sub-i
     add-r

@@ -3,7 +3,7 @@ use mathlib.Core.Path.{sym, _∙_}
 use borrow.Author.Needs.{needs}
 use Rattle.texts.specs.Numbers.{decimal}
 use Rattle.numerals.specs.Splits.{span}
-use Rattle.listings.specs.Listings.{said-some, said-none}
+use Rattle.numerals.specs.Numerals.{number-there, number-missing}
 use Rattle.listings.proofs.is_number.Statement.{statement}
 use Rattle.listings.proofs.is_number.Tie as tie
 
@@ -29,13 +29,13 @@ returns : tie.Need-returns
 returns c =
     let b = c .before .before in
     let s = b .before .before .before in
-    said-none (decimal (span (s .args .a) (s .args .e) (s .args .d .now))) (sym (b .decimal .ensures) ∙ c .enum-told .given .1) .0
+    number-missing (decimal (span (s .args .a) (s .args .e) (s .args .d .now))) (sym (b .decimal .ensures) ∙ c .enum-told .given .1) .0
 
 returns-2 : tie.Need-returns-2
 returns-2 c =
     let b = c .before .before in
     let s = b .before .before .before in
-    said-some (decimal (span (s .args .a) (s .args .e) (s .args .d .now))) _ (sym (b .decimal .ensures) ∙ c .enum-told2 .given .1) .0
+    number-there (decimal (span (s .args .a) (s .args .e) (s .args .d .now))) _ (sym (b .decimal .ensures) ∙ c .enum-told2 .given .1) .0
 
 pub is-number-spec : {M : Type 1} → statement M
 is-number-spec =

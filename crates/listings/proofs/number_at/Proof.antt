@@ -3,7 +3,7 @@ use mathlib.Core.Path.{sym, _∙_}
 use borrow.Author.Needs.{needs}
 use Rattle.texts.specs.Numbers.{decimal}
 use Rattle.numerals.specs.Splits.{span}
-use Rattle.listings.specs.Listings.{said-some, said-none}
+use Rattle.numerals.specs.Numerals.{number-there, number-missing}
 use Rattle.listings.proofs.number_at.Statement.{statement}
 use Rattle.listings.proofs.number_at.Tie as tie
 
@@ -29,13 +29,13 @@ returns : tie.Need-returns
 returns c =
     let b = c .before .before in
     let s = b .before .before .before in
-    said-none (decimal (span (s .args .a) (s .args .e) (s .args .d .now))) (sym (b .decimal .ensures) ∙ c .enum-told .given .1) .1
+    number-missing (decimal (span (s .args .a) (s .args .e) (s .args .d .now))) (sym (b .decimal .ensures) ∙ c .enum-told .given .1) .1
 
 returns-2 : tie.Need-returns-2
 returns-2 c =
     let b = c .before .before .before in
     let s = b .before .before .before in
-    said-some (decimal (span (s .args .a) (s .args .e) (s .args .d .now))) _ (sym (b .decimal .ensures) ∙ c .before .v .given .1) .1
+    number-there (decimal (span (s .args .a) (s .args .e) (s .args .d .now))) _ (sym (b .decimal .ensures) ∙ c .before .v .given .1) .1
 
 pub number-at-spec : {M : Type 1} → statement M
 number-at-spec =

@@ -1,6 +1,5 @@
 -- `load_texts::main` meets its contract: the loop ends. Assumes nothing.
 use Prim.Native.Nat.{_-_}
-use native.Mathlib.Omega.{arith}
 use borrow.Author.Needs.{needs}
 use Rattle.load_texts.proofs.main.Statement.{statement}
 use Rattle.load_texts.proofs.main.Tie as tie

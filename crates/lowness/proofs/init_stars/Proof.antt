@@ -13,13 +13,13 @@ Inv-loop counts inits i n a m j₀ sum₀ j sum = (j ≤ m) × (m ≤ 15000 - a)
 abbrev μ-loop : tie.MeasureT-loop
 μ-loop counts inits i n a m j₀ sum₀ j sum = j
 
-pairs-from-requires : tie.Need-pairs-from-requires Inv-loop μ-loop
-pairs-from-requires c κs = search needs
+rows-from-requires : tie.Need-rows-from-requires Inv-loop μ-loop
+rows-from-requires c κs = search needs
 
 loop-holds : tie.Need-loop-holds Inv-loop μ-loop
 loop-holds c =
     let a = c .before .args in
-    (omega arith, omega (arith, c .pairs-from .ensures), omega arith, pairs-none (a .counts .now) (a .inits .now) (a .i) (c .pairs-from .result))
+    (omega arith, omega (arith, c .rows-from .ensures), omega arith, pairs-none (a .counts .now) (a .inits .now) (a .i) (c .rows-from .result))
 
 sub-j : tie.Need-sub-j Inv-loop μ-loop
 sub-j c = search needs
@@ -52,14 +52,14 @@ loop-again : tie.Need-loop-again Inv-loop μ-loop
 loop-again c =
     let t = c .before .before .before in
     let l = t .before .loop in
-    let m = t .before .before .pairs-from .result in
+    let m = t .before .before .rows-from .result in
     let a = t .before .before .before .args in
     (omega (arith, l .inv .0), l .inv .1, omega (arith, c .add-few .ensures), pairs-more (a .counts .now) (a .inits .now) (a .i) m (l .j) (l .sum) _ _ (t .loop-test .taken) (l .inv .0) (l .inv .3) (c .before .stars-at .ensures .0) (c .add-few .ensures))
 
 returns : tie.Need-returns Inv-loop μ-loop
 returns c =
     let l = c .before .loop in
-    let m = c .before .before .pairs-from in
+    let m = c .before .before .rows-from in
     let a = c .before .before .before .args in
     pairs-all (a .counts .now) (a .inits .now) (a .i) (m .result) (l .j) (l .sum) (a .n) (c .loop-test .left) (m .ensures) (l .inv .3)
 
@@ -69,7 +69,7 @@ init-stars-spec =
     (tie.spec
     Inv-loop
     μ-loop
-    pairs-from-requires
+    rows-from-requires
     loop-holds
     sub-j
     add-e

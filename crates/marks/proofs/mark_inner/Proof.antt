@@ -1,6 +1,8 @@
 -- `marks::mark_inner` meets its contract: nothing, one or two numbers are marked.
-use Rattle.marks.specs.Flow.{inner-none, inner-one, inner-two}
+use mathlib.Core.Path.{ap}
 use borrow.Author.Needs.{needs}
+use Rattle.marks.specs.Inner.{listed}
+use Rattle.marks.specs.Flow.{marks-none, marks-one, marks-two}
 use Rattle.marks.proofs.mark_inner.Statement.{statement}
 use Rattle.marks.proofs.mark_inner.Tie as tie
 
@@ -23,17 +25,17 @@ mark-low-requires-3 : tie.Need-mark-low-requires-3
 mark-low-requires-3 c κs = search needs
 
 returns : tie.Need-returns
-returns c = let a = c .before .before .args in inner-none (a .b) (a .n) (a .i) _ (c .enum-told .given .1)
+returns c = let a = c .before .before .args in marks-none (a .b) (a .n) (listed (a .i)) _ (ap listed (c .enum-told .given .1))
 
 returns-2 : tie.Need-returns-2
 returns-2 c =
     let a = c .before .before .before .before .before .args in
-    inner-one (a .b) (a .n) (a .i) _ _ _ (c .before .before .before .i .given .1) (c .mark-low .ensures)
+    marks-one (a .b) (a .n) (listed (a .i)) _ _ _ (ap listed (c .before .before .before .i .given .1)) (c .mark-low .ensures)
 
 returns-3 : tie.Need-returns-3
 returns-3 c =
     let a = c .before .before .before .before .before .before .before .args in
-    inner-two (a .b) (a .n) (a .i) _ _ _ _ _ (c .before .before .before .before .before .i2 .given .1) (c .before .before .mark-low2 .ensures) (c .mark-low3 .ensures)
+    marks-two (a .b) (a .n) (listed (a .i)) _ _ _ _ _ (ap listed (c .before .before .before .before .before .i2 .given .1)) (c .before .before .mark-low2 .ensures) (c .mark-low3 .ensures)
 
 pub mark-inner-spec : {M : Type 1} → statement M
 mark-inner-spec =

@@ -12,13 +12,13 @@ Inv-loop variable-of inits m i c a n j₀ j = (j ≤ n) × (n ≤ 15000 - a) × 
 abbrev μ-loop : tie.MeasureT-loop
 μ-loop variable-of inits m i c a n j₀ j = n - j
 
-pairs-from-requires : tie.Need-pairs-from-requires Inv-loop μ-loop
-pairs-from-requires c κs = search needs
+rows-from-requires : tie.Need-rows-from-requires Inv-loop μ-loop
+rows-from-requires c κs = search needs
 
 loop-holds : tie.Need-loop-holds Inv-loop μ-loop
 loop-holds c =
     let a = c .before .args in
-    (omega arith, omega (arith, c .pairs-from .ensures), pair-first (ownPair (a .variable-of .now) (a .m)) (a .inits .now) (a .i) (c .pairs-from .result))
+    (omega arith, omega (arith, c .rows-from .ensures), pair-first (ownPair (a .variable-of .now) (a .m)) (a .inits .now) (a .i) (c .rows-from .result))
 
 add-x : tie.Need-add-x Inv-loop μ-loop
 add-x c = search needs
@@ -39,7 +39,7 @@ returns : tie.Need-returns Inv-loop μ-loop
 returns c =
     let t = c .before .before .before in
     let l = t .before .loop in
-    let n = t .before .before .pairs-from in
+    let n = t .before .before .rows-from in
     let a = t .before .before .before .args in
     pair-found (ownPair (a .variable-of .now) (a .m)) (a .inits .now) (a .i) (n .result) (l .j) (a .c) (t .loop-test .taken) (n .ensures) (pair-no (a .variable-of .now) (a .inits .now) (a .m) (a .i + l .j) _ (c .before .kind-of .ensures) (c .if1 .taken)) (l .inv .2)
 
@@ -53,14 +53,14 @@ loop-again : tie.Need-loop-again Inv-loop μ-loop
 loop-again c =
     let t = c .before .before .before in
     let l = t .before .loop in
-    let n = t .before .before .pairs-from in
+    let n = t .before .before .rows-from in
     let a = t .before .before .before .args in
     (omega (arith, t .loop-test .taken), l .inv .1, pair-more (ownPair (a .variable-of .now) (a .m)) (a .inits .now) (a .i) (n .result) (l .j) (t .loop-test .taken) (pair-yes (a .variable-of .now) (a .inits .now) (a .m) (a .i + l .j) _ (c .before .kind-of .ensures) (c .if1 .left)) (l .inv .2))
 
 returns-2 : tie.Need-returns-2 Inv-loop μ-loop
 returns-2 c =
     let l = c .before .loop in
-    let n = c .before .before .pairs-from in
+    let n = c .before .before .rows-from in
     let a = c .before .before .before .args in
     pair-none (ownPair (a .variable-of .now) (a .m)) (a .inits .now) (a .i) (n .result) (l .j) (a .c) (c .loop-test .left) (n .ensures) (l .inv .2)
 
@@ -70,7 +70,7 @@ own-pairs-spec =
     (tie.spec
     Inv-loop
     μ-loop
-    pairs-from-requires
+    rows-from-requires
     loop-holds
     add-x
     mul-x

@@ -1,5 +1,4 @@
 -- `readers::value_at` meets its contract: the part from `at` to the word's end is the word. Assumes nothing.
-use Prim.Native.Nat.{_-_}
 use mathlib.Core.Path.{sym}
 use lib.ListN.{drop, length-drop}
 use Rattle.readers.specs.Words.{word, parted, word-short, empty}

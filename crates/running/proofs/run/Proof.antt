@@ -1,8 +1,7 @@
 -- `running::run` meets its contract: a program that is not sound is refused. Assumes nothing.
 use mathlib.Core.Path.{ap, sym, _∙_}
 use borrow.Author.Needs.{needs}
-use borrow.Author.Tests.{not-false}
-use Rattle.lists.specs.Facts.{not-true}
+use borrow.Author.Tests.{not-false, not-true}
 use Rattle.soundness.specs.Sound.{sound-is}
 use Rattle.running.specs.Running.{ranWith, run-unsound}
 use Rattle.running.proofs.run.Statement.{statement}

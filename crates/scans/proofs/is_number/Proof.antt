@@ -2,7 +2,7 @@
 use mathlib.Core.Path.{sym, _∙_}
 use borrow.Author.Needs.{needs}
 use Rattle.texts.specs.Numbers.{decimal}
-use Rattle.scans.specs.Holes.{number-some, number-none}
+use Rattle.numerals.specs.Numerals.{number-there, number-missing}
 use Rattle.scans.proofs.is_number.Statement.{statement}
 use Rattle.scans.proofs.is_number.Tie as tie
 
@@ -16,10 +16,10 @@ enum-told-2 : tie.Need-enum-told-2
 enum-told-2 c = search needs
 
 returns : tie.Need-returns
-returns c = number-none (decimal (c .before .before .before .before .args .d .now)) (sym (c .before .before .decimal .ensures) ∙ c .enum-told .given .1)
+returns c = number-missing (decimal (c .before .before .before .before .args .d .now)) (sym (c .before .before .decimal .ensures) ∙ c .enum-told .given .1) .0
 
 returns-2 : tie.Need-returns-2
-returns-2 c = number-some (decimal (c .before .before .before .before .args .d .now)) _ (sym (c .before .before .decimal .ensures) ∙ c .enum-told2 .given .1)
+returns-2 c = number-there (decimal (c .before .before .before .before .args .d .now)) _ (sym (c .before .before .decimal .ensures) ∙ c .enum-told2 .given .1) .0
 
 pub is-number-spec : {M : Type 1} → statement M
 is-number-spec = tie.close (tie.spec decimal-requires enum-told enum-told-2 returns returns-2)

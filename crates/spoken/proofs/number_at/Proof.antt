@@ -4,8 +4,7 @@ use borrow.Author.Needs.{needs}
 use lib.ListN.{drop}
 use Rattle.texts.specs.Numbers.{decimal}
 use Rattle.readers.specs.Words.{word}
-use Rattle.numerals.specs.Numerals.{capped}
-use Rattle.spoken.specs.Counted.{number-none, number-some}
+use Rattle.numerals.specs.Numerals.{capped, number-there, number-missing}
 use Rattle.spoken.proofs.number_at.Statement.{statement}
 use Rattle.spoken.proofs.number_at.Tie as tie
 
@@ -25,15 +24,15 @@ returns : tie.Need-returns
 returns c =
     let d = c .before .before in
     let a = d .before .before .before .args in
-    number-none (decimal (word (drop (a .at) (a .s .now))))
-    (sym (c .enum-told .given .1) ∙ d .decimal .ensures ∙ ap (λ l. capped (decimal l)) (d .before .field .ensures))
+    number-missing (decimal (word (drop (a .at) (a .s .now))))
+    (sym (ap (λ l. capped (decimal l)) (d .before .field .ensures)) ∙ sym (d .decimal .ensures) ∙ c .enum-told .given .1) .1
 
 returns-2 : tie.Need-returns-2
 returns-2 c =
     let d = c .before .before .before in
     let a = d .before .before .before .args in
-    number-some (decimal (word (drop (a .at) (a .s .now)))) _
-    (sym (c .before .n .given .1) ∙ d .decimal .ensures ∙ ap (λ l. capped (decimal l)) (d .before .field .ensures))
+    number-there (decimal (word (drop (a .at) (a .s .now)))) _
+    (sym (ap (λ l. capped (decimal l)) (d .before .field .ensures)) ∙ sym (d .decimal .ensures) ∙ c .before .n .given .1) .1
 
 pub number-at-spec : {M : Type 1} → statement M
 number-at-spec =

@@ -27,11 +27,11 @@ suits-requires c κs = search needs
 returns : tie.Need-returns
 returns c = λ a. assign-refused a _ (c .before .before .before .before .before .number .ensures) _ (rw (c .before .before .before .before .wide .ensures) at (c .before .before .before .variable-type .ensures)) _ (c .before .before .value-of .ensures) _ (c .before .suits .ensures) (not-true _ (c .if1 .taken))
 
-element-copy-out-short : tie.Need-element-copy-out-short
-element-copy-out-short c = omega (arith, assign-256 (c .before .before .before .before .before .before .before .pre))
+element-copy-out-index : tie.Need-element-copy-out-index
+element-copy-out-index c = omega (arith, assign-256 (c .before .before .before .before .before .before .before .pre))
 
-short-requires : tie.Need-short-requires
-short-requires c κs = search needs
+index-requires : tie.Need-index-requires
+index-requires c κs = search needs
 
 add-values : tie.Need-add-values
 add-values c = omega (arith, c .before .before .before .before .before .before .before .before .before .pre .test .row .heading .stands .room)
@@ -40,13 +40,13 @@ mul-values : tie.Need-mul-values
 mul-values c = omega (arith, c .before .before .before .before .before .before .before .before .before .pre .test .row .heading .stands .room)
 
 add-values-2 : tie.Need-add-values-2
-add-values-2 c = omega (arith, c .before .before .before .before .before .before .before .before .before .pre .test .row .heading .stands .room, assign-place (c .before .before .before .before .before .before .before .before .before .pre), c .short .ensures)
+add-values-2 c = omega (arith, c .before .before .before .before .before .before .before .before .before .pre .test .row .heading .stands .room, assign-place (c .before .before .before .before .before .before .before .before .before .pre), c .index .ensures)
 
 mul-values-2 : tie.Need-mul-values-2
-mul-values-2 c = omega (arith, c .before .before .before .before .before .before .before .before .before .pre .test .row .heading .stands .room, assign-place (c .before .before .before .before .before .before .before .before .before .pre), c .short .ensures)
+mul-values-2 c = omega (arith, c .before .before .before .before .before .before .before .before .before .pre .test .row .heading .stands .room, assign-place (c .before .before .before .before .before .before .before .before .before .pre), c .index .ensures)
 
 element-write-values : tie.Need-element-write-values
-element-write-values c = omega (arith, c .before .before .before .before .before .before .before .before .before .pre .test .row .heading .stands .room, assign-place (c .before .before .before .before .before .before .before .before .before .pre), c .short .ensures)
+element-write-values c = omega (arith, c .before .before .before .before .before .before .before .before .before .pre .test .row .heading .stands .room, assign-place (c .before .before .before .before .before .before .before .before .before .pre), c .index .ensures)
 
 mul-pending : tie.Need-mul-pending
 mul-pending c = omega (arith, c .before .before .before .before .before .before .before .before .before .pre .test .row .heading .stands .room)
@@ -58,9 +58,9 @@ finish-head-requires : tie.Need-finish-head-requires
 finish-head-requires c κs = asked-headed (c .before .before .before .before .before .before .before .before .before .before .before .before .pre .test .row)
 
 returns-2 : tie.Need-returns-2
-returns-2 c = λ a. assign-left a _ (c .before .before .before .before .before .before .before .before .before .before .before .number .ensures) _ (rw (c .before .before .before .before .before .before .before .before .before .before .wide .ensures) at (c .before .before .before .before .before .before .before .before .before .variable-type .ensures)) _ (c .before .before .before .before .before .before .before .before .value-of .ensures) _ (c .before .before .before .before .before .before .before .suits .ensures) _ (c .before .before .before .before .short .ensures) _ refl (not-false _ (c .before .before .before .before .before .before .if1 .left)) (c .finish-head .ensures)
+returns-2 c = λ a. assign-left a _ (c .before .before .before .before .before .before .before .before .before .before .before .number .ensures) _ (rw (c .before .before .before .before .before .before .before .before .before .before .wide .ensures) at (c .before .before .before .before .before .before .before .before .before .variable-type .ensures)) _ (c .before .before .before .before .before .before .before .before .value-of .ensures) _ (c .before .before .before .before .before .before .before .suits .ensures) _ (c .before .before .before .before .index .ensures) _ refl (not-false _ (c .before .before .before .before .before .before .if1 .left)) (c .finish-head .ensures)
 
 pub assign-on-spec : {M : Type 1} → statement M
 assign-on-spec =
     tie.close
-    (tie.spec number-requires wide-requires variable-type-requires value-of-requires suits-requires returns element-copy-out-short short-requires add-values mul-values add-values-2 mul-values-2 element-write-values mul-pending element-copy-out-pending finish-head-requires returns-2)
+    (tie.spec number-requires wide-requires variable-type-requires value-of-requires suits-requires returns element-copy-out-index index-requires add-values mul-values add-values-2 mul-values-2 element-write-values mul-pending element-copy-out-pending finish-head-requires returns-2)

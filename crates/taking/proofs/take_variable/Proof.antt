@@ -6,10 +6,10 @@ use borrow.Author.Needs.{needs}
 use borrow.Author.Tests.{not-true, not-false}
 use lib.Dec.{eqb}
 use lib.ListN.{length}
-use Rattle.lists.specs.Facts.{and-both}
+use Rattle.lists.specs.Facts.{and-both, and-fails}
 use Rattle.spoken.specs.Took.{took, refused}
 use Rattle.taking.specs.Lines.{variable-says}
-use Rattle.taking.specs.More.{number-other, number-next, room-told, enter-room, countable, crowded, cut-of, held-more}
+use Rattle.taking.specs.More.{number-other, number-next, room-told, enter-room, countable, cut-of, held-more}
 use Rattle.taking.proofs.take_variable.Statement.{statement}
 use Rattle.taking.proofs.take_variable.Tie as tie
 
@@ -49,7 +49,7 @@ returns-2 c h i v e =
     let a = s .args in
     let says = variable-says (a .s .now) (a .t3) (a .row) i v (s .pre .1 .0) e in
     let told = room-told (h .held) (s .pre .1 .1 .0) (says .of) (n .number-at2 .ensures) (c .before .in-room .ensures) in
-    refused (crowded (eqb i (length (h .rows) + 1)) (sym told ∙ not-true _ (c .if2 .taken)))
+    refused (and-fails (eqb i (length (h .rows) + 1)) _ (sym told ∙ not-true _ (c .if2 .taken)))
     (record { owners = refl; holds = refl; rooms = refl; variables = refl; absent = refl })
 
 sub-enter : tie.Need-sub-enter

@@ -6,8 +6,7 @@ use mir.Syntax.{w64}
 use mir.Facts.{toZ-ofZ}
 use Rattle.texts.specs.Numbers.{signed}
 use Rattle.readers.specs.Words.{word}
-use Rattle.numerals.specs.Numerals.{cappedInt}
-use Rattle.taking_exprs.specs.Vals.{val-none, val-some}
+use Rattle.numerals.specs.Numerals.{cappedInt, integer-there, integer-missing}
 use Rattle.taking_exprs.proofs.val_at.Statement.{statement}
 use Rattle.taking_exprs.proofs.val_at.Tie as tie
 
@@ -27,15 +26,15 @@ returns : tie.Need-returns
 returns c =
     let d = c .before .before in
     let a = d .before .before .before .args in
-    val-none (signed (word (drop (a .at) (a .s .now))))
-    (sym (c .enum-told .given .1) ∙ d .signed .ensures ∙ ap (λ l. cappedInt (signed l)) (d .before .field .ensures))
+    integer-missing (signed (word (drop (a .at) (a .s .now))))
+    (sym (ap (λ l. cappedInt (signed l)) (d .before .field .ensures)) ∙ sym (d .signed .ensures) ∙ c .enum-told .given .1) .1
 
 returns-2 : tie.Need-returns-2
 returns-2 c =
     let d = c .before .before .before in
     let a = d .before .before .before .args in
-    toZ-ofZ {w = w64} (record { sfits = c .known-told .given .0 .1 }) ∙ val-some (signed (word (drop (a .at) (a .s .now)))) _
-    (sym (c .before .z .given .1) ∙ d .signed .ensures ∙ ap (λ l. cappedInt (signed l)) (d .before .field .ensures))
+    toZ-ofZ {w = w64} (record { sfits = c .known-told .given .0 .1 }) ∙ integer-there (signed (word (drop (a .at) (a .s .now)))) _
+    (sym (ap (λ l. cappedInt (signed l)) (d .before .field .ensures)) ∙ sym (d .signed .ensures) ∙ c .before .z .given .1) .1
 
 pub val-at-spec : {M : Type 1} → statement M
 val-at-spec =

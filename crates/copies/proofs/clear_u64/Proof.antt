@@ -1,10 +1,10 @@
--- `deleting::clear_u16` meets its contract: the loop that clears, of crates/rows. Assumes nothing.
+-- `copies::clear_u64` meets its contract: the loop that clears, of crates/rows. Assumes nothing.
 use Prim.Native.Nat.{_-_}
 use native.Mathlib.Omega.{arith}
 use borrow.Author.Needs.{needs}
 use Rattle.rows.specs.Fill.{Clearing, clearing-none, clearing-more, filling-all}
-use Rattle.deleting.proofs.clear_u16.Statement.{statement}
-use Rattle.deleting.proofs.clear_u16.Tie as tie
+use Rattle.copies.proofs.clear_u64.Statement.{statement}
+use Rattle.copies.proofs.clear_u64.Tie as tie
 
 abbrev Inv-loop : tie.InvT-loop
 Inv-loop to₀ b n e₀ to e = Clearing 0 b n to₀ to e
@@ -39,8 +39,8 @@ same-length c = search needs
 returns : tie.Need-returns Inv-loop μ-loop
 returns c = filling-all 0 (c .before .loop .inv) (omega arith)
 
-pub clear-u16-spec : {M : Type 1} → statement M
-clear-u16-spec =
+pub clear-u64-spec : {M : Type 1} → statement M
+clear-u64-spec =
     tie.close
     (tie.spec
     Inv-loop

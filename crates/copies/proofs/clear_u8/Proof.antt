@@ -1,10 +1,10 @@
--- `deleting::clear_u8` meets its contract: the loop that clears, of crates/rows. Assumes nothing.
+-- `copies::clear_u8` meets its contract: the loop that clears, of crates/rows. Assumes nothing.
 use Prim.Native.Nat.{_-_}
 use native.Mathlib.Omega.{arith}
 use borrow.Author.Needs.{needs}
 use Rattle.rows.specs.Fill.{Clearing, clearing-none, clearing-more, filling-all}
-use Rattle.deleting.proofs.clear_u8.Statement.{statement}
-use Rattle.deleting.proofs.clear_u8.Tie as tie
+use Rattle.copies.proofs.clear_u8.Statement.{statement}
+use Rattle.copies.proofs.clear_u8.Tie as tie
 
 abbrev Inv-loop : tie.InvT-loop
 Inv-loop to₀ b n e₀ to e = Clearing 0 b n to₀ to e

@@ -1,7 +1,7 @@
--- `naming::there` meets its contract: by whether the number is 0. Assumes nothing.
+-- `tables::there` meets its contract: by whether the number is 0. Assumes nothing.
 use borrow.Author.Tests.{lt-leb, le-leb}
-use Rattle.naming.proofs.there.Statement.{statement}
-use Rattle.naming.proofs.there.Tie as tie
+use Rattle.tables.proofs.there.Statement.{statement}
+use Rattle.tables.proofs.there.Tie as tie
 
 returns : tie.Need-returns
 returns c = rw (lt-leb 1 (c .before .args .n) (c .if1 .taken))
