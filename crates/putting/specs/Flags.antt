@@ -14,7 +14,8 @@ use Rattle.rows.specs.Seek.{table}
 use Rattle.programs.specs.Sizes.{STATES}
 use Rattle.programs.specs.Program.{State}
 use Rattle.tabled.specs.Tabled.{deferrable, flagRow, deferTable}
-use Rattle.putting.specs.Counts.{flag-length, flag-rows}
+use Rattle.tabled.specs.Widths.{flag-length}
+use Rattle.putting.specs.Counts.{flag-rows}
 
 module _ (ns : List State) (s : State) (n : ℕ) (e : n ≡ length ns + 1) (h : n ≤ STATES) where
   -- the rows so far, with the one of no state
