@@ -33,6 +33,7 @@ holds-nothing = record {
       tables = λ z. record { of = sym no-variable-kinds; type = sym no-variable-types };
       there = λ z. tt;
       first = λ z. absurd (z refl);
+      front = λ z. absurd (z refl);
     };
     expressions = record { held = sym no-exprs; size = omega arith };
   };

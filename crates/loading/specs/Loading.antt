@@ -31,7 +31,7 @@ use Rattle.gathering.specs.Gathered.{eventLines}
 use Rattle.taking_lines.specs.Gathered.{startWord}
 use Rattle.taking_lines.specs.Asked.{Gathered}
 use Rattle.reading.specs.Order.{Weighs}
-use Rattle.reading.specs.Whole.{WholeRead}
+use Rattle.reading.specs.Whole.{RefusedRead, WholeRead}
 use Rattle.loading.specs.Holding.{whole-is, lent-tabled}
 
 -- 1
@@ -45,8 +45,9 @@ unfolding loadOf answered
 judged-as s h r e = rw (le-ltb TEXT (length s) h, e)
 
 -- 2 AND 3
-pub read-refused : (s : List ℕ) → length s ≤ TEXT → (b : Answer) (n : ℕ) → reading 0 nothing 1 (split LF s) ≡ refused b n → loadedAs (refused b n) ≡ loadOf s
-read-refused s h b n e = judged-as s h (refused b n) e
+pub read-refused : {types owners holds rooms exprs : List ℕ} {kinds variables absent : ℕ} {stmts inits actors bodies homes entries exits flags moves choices : List ℕ} {pairs steps calls acts start count : ℕ} (s : List ℕ) → length s ≤ TEXT → (b : Answer) (n : ℕ)
+    → RefusedRead s b n types owners holds rooms exprs kinds variables absent stmts inits actors bodies homes entries exits flags moves choices pairs steps calls acts start count → loadedAs (refused b n) ≡ loadOf s
+read-refused s h b n e = judged-as s h (refused b n) (e .same)
 
 -- what a text is read to has bytes for its moves and its pairs
 weighed : (a : Tables) (k n : ℕ) → n ≤ TEXT → Weighs a n

@@ -18,6 +18,7 @@ use Rattle.tabled.specs.Tabled.{byteOf, wordOf, tyCode, eventTable, variableKin
 use Rattle.choices.specs.Choices.{choiceWord}
 use Rattle.tabled.specs.Tabled.{actionKinds, actionBodies, stateKind, stateKinds, stateEntries, stateExits, moveRow, moveTable, choiceTable}
 use Rattle.putting.specs.Asked.{EventRoom, VariableTables, VariableRoom, ExprRoom, StmtRoom, ActionTables, ActionRoom, StateTables, StateRoom, MoveRoom, ChoiceRoom}
+use Rattle.putting.specs.Stored.{more, oneStored, threeStored, fiveStored}
 use Rattle.putting.specs.Behind.{row-one, row-three, row-five}
 use Rattle.putting.specs.Counts.{expr-rows, stmt-rows, move-rows, event-count, variable-count, expr-count, stmt-count, action-count, state-count}
 
@@ -42,7 +43,7 @@ module _ {types : List ℕ} (h : EventRoom types) where
   event-room = rw (h .held) (omega (arith, event-count (h .rows)))
 
   -- one more
-  pub event-put : (e : Ty) {t : ℕ} → tyCode e ≡ t → set (set types (getD types 0 0 + 1) t) 0 (getD types 0 0 + 1) ≡ eventTable (h .rows ++ e ∷ [])
+  pub event-put : (e : Ty) {t : ℕ} → tyCode e ≡ t → oneStored types t ≡ eventTable (h .rows ++ e ∷ [])
   unfolding eventTable
   event-put e q = rw (← q, h .held, event-count (h .rows)) (counted-more 65 tyCode (h .rows) e (omega arith))
 
@@ -53,12 +54,12 @@ module _ {kinds types : List ℕ} (h : VariableRoom kinds types) where
   variable-room = rw (h .held .of) (omega (arith, variable-count (h .rows)))
 
   -- one more
-  pub variable-put : (v : Variable) {k t : ℕ} → wordOf (v .of) ≡ k → tyCode (v .type) ≡ t
-      → VariableTables (h .rows ++ v ∷ []) (set (set kinds (getD kinds 0 0 + 1) k) 0 (getD kinds 0 0 + 1)) (set types (getD kinds 0 0 + 1) t)
+  pub variable-put : (v : Variable) {k t : ℕ} {kinds′ types′ : List ℕ} → wordOf (v .of) ≡ k → tyCode (v .type) ≡ t → (kinds′ ≡ oneStored kinds k) × (types′ ≡ set types (more kinds) t)
+      → VariableTables (h .rows ++ v ∷ []) kinds′ types′
   unfolding variableKinds variableTypes
-  variable-put v p q = record {
-    of = rw (← p, h .held .of, variable-count (h .rows)) (counted-more 257 (λ w. wordOf (w .of)) (h .rows) v (omega arith));
-    type = rw (← q, h .held .of, h .held .type, variable-count (h .rows)) (image-more 257 (λ w. tyCode (w .type)) (h .rows) v (omega arith) 0);
+  variable-put v p q e = record {
+    of = e .0 ∙ rw (← p, h .held .of, variable-count (h .rows)) (counted-more 257 (λ w. wordOf (w .of)) (h .rows) v (omega arith));
+    type = e .1 ∙ rw (← q, h .held .of, h .held .type, variable-count (h .rows)) (image-more 257 (λ w. tyCode (w .type)) (h .rows) v (omega arith) 0);
   }
 
 -- EXPRESSIONS
@@ -68,9 +69,7 @@ module _ {exprs : List ℕ} (h : ExprRoom exprs) where
   expr-room = rw (h .held) (omega (arith, expr-count (h .rows)))
 
   -- one more
-  pub expr-put : (e : Expr) {k x y : ℕ} → exprRow e ≡ k ∷ x ∷ y ∷ []
-      → set (set (set (set exprs (3 * (getD exprs 0 0 + 1)) k) (3 * (getD exprs 0 0 + 1) + 1) x) (3 * (getD exprs 0 0 + 1) + 2) y) 0 (getD exprs 0 0 + 1)
-      ≡ exprTable (h .rows ++ e ∷ [])
+  pub expr-put : (e : Expr) {k x y : ℕ} → exprRow e ≡ k ∷ x ∷ y ∷ [] → threeStored exprs k x y ≡ exprTable (h .rows ++ e ∷ [])
   unfolding exprTable
   expr-put e {k} {x} {y} q =
       let xs = h .rows in
@@ -92,9 +91,7 @@ module _ {stmts : List ℕ} (h : StmtRoom stmts) where
   stmt-room = rw (h .held) (omega (arith, stmt-count (h .rows)))
 
   -- one more
-  pub stmt-put : (s : Stmt) {k x y z n : ℕ} → stmtRow (length (flat initOf (h .rows))) s ≡ k ∷ x ∷ y ∷ z ∷ n ∷ []
-      → set (set (set (set (set (set stmts (5 * (getD stmts 0 0 + 1)) k) (5 * (getD stmts 0 0 + 1) + 1) x) (5 * (getD stmts 0 0 + 1) + 2) y) (5 * (getD stmts 0 0 + 1) + 3) z) (5 * (getD stmts 0 0 + 1) + 4) n) 0 (getD stmts 0 0 + 1)
-      ≡ stmtTable (h .rows ++ s ∷ [])
+  pub stmt-put : (s : Stmt) {k x y z n : ℕ} → stmtRow (length (flat initOf (h .rows))) s ≡ k ∷ x ∷ y ∷ z ∷ n ∷ [] → fiveStored stmts k x y z n ≡ stmtTable (h .rows ++ s ∷ [])
   unfolding stmtTable
   stmt-put s {k} {x} {y} {z} {n} q =
       let ss = h .rows in
@@ -109,12 +106,12 @@ module _ {kinds bodies : List ℕ} (h : ActionRoom kinds bodies) where
   action-room = rw (h .held .of) (omega (arith, action-count (h .rows)))
 
   -- one more
-  pub action-put : (a : Action) {k b : ℕ} → byteOf (a .of) ≡ k → wordOf (a .body) ≡ b
-      → ActionTables (h .rows ++ a ∷ []) (set (set kinds (getD kinds 0 0 + 1) k) 0 (getD kinds 0 0 + 1)) (set bodies (getD kinds 0 0 + 1) b)
+  pub action-put : (a : Action) {k b : ℕ} {kinds′ bodies′ : List ℕ} → byteOf (a .of) ≡ k → wordOf (a .body) ≡ b → (kinds′ ≡ oneStored kinds k) × (bodies′ ≡ set bodies (more kinds) b)
+      → ActionTables (h .rows ++ a ∷ []) kinds′ bodies′
   unfolding actionKinds actionBodies
-  action-put a p q = record {
-    of = rw (← p, h .held .of, action-count (h .rows)) (counted-more 65 (λ c. byteOf (c .of)) (h .rows) a (omega arith));
-    body = rw (← q, h .held .of, h .held .body, action-count (h .rows)) (image-more 65 (λ c. wordOf (c .body)) (h .rows) a (omega arith) 0);
+  action-put a p q e = record {
+    of = e .0 ∙ rw (← p, h .held .of, action-count (h .rows)) (counted-more 65 (λ c. byteOf (c .of)) (h .rows) a (omega arith));
+    body = e .1 ∙ rw (← q, h .held .of, h .held .body, action-count (h .rows)) (image-more 65 (λ c. wordOf (c .body)) (h .rows) a (omega arith) 0);
   }
 
 -- STATES
@@ -124,13 +121,13 @@ module _ {kinds entries exits : List ℕ} (h : StateRoom kinds entries exits) wh
   state-room = rw (h .held .of) (omega (arith, state-count (h .rows)))
 
   -- one more
-  pub state-put : (s : State) {k entry exit : ℕ} → stateKind s ≡ k → wordOf (s .entry) ≡ entry → wordOf (s .exit) ≡ exit
-      → StateTables (h .rows ++ s ∷ []) (set (set kinds (getD kinds 0 0 + 1) k) 0 (getD kinds 0 0 + 1)) (set entries (getD kinds 0 0 + 1) entry) (set exits (getD kinds 0 0 + 1) exit)
+  pub state-put : (s : State) {k entry exit : ℕ} {kinds′ entries′ exits′ : List ℕ} → stateKind s ≡ k → wordOf (s .entry) ≡ entry → wordOf (s .exit) ≡ exit
+      → (kinds′ ≡ oneStored kinds k) × ((entries′ ≡ set entries (more kinds) entry) × (exits′ ≡ set exits (more kinds) exit)) → StateTables (h .rows ++ s ∷ []) kinds′ entries′ exits′
   unfolding stateKinds stateEntries stateExits
-  state-put s p q r = record {
-    of = rw (← p, h .held .of, state-count (h .rows)) (counted-more 65 stateKind (h .rows) s (omega arith));
-    entry = rw (← q, h .held .of, h .held .entry, state-count (h .rows)) (image-more 65 (λ n. wordOf (n .entry)) (h .rows) s (omega arith) 0);
-    exit = rw (← r, h .held .of, h .held .exit, state-count (h .rows)) (image-more 65 (λ n. wordOf (n .exit)) (h .rows) s (omega arith) 0);
+  state-put s p q r e = record {
+    of = e .0 ∙ rw (← p, h .held .of, state-count (h .rows)) (counted-more 65 stateKind (h .rows) s (omega arith));
+    entry = e .1 .0 ∙ rw (← q, h .held .of, h .held .entry, state-count (h .rows)) (image-more 65 (λ n. wordOf (n .entry)) (h .rows) s (omega arith) 0);
+    exit = e .1 .1 ∙ rw (← r, h .held .of, h .held .exit, state-count (h .rows)) (image-more 65 (λ n. wordOf (n .exit)) (h .rows) s (omega arith) 0);
   }
 
 -- MOVES

@@ -1,19 +1,13 @@
 // One line's row put into the tables of a program, behind the rows that are there. A function is lent the arrays that it touches; what is asked of them, and
-// what the tables are, stands in specs/Asked.antt and crates/tabled. The flags of a state and the pairs of a `new` are put elsewhere: specs/Flags.antt and
-// specs/Pool.antt say what they make of their tables.
+// what the tables are, stands in specs/Asked.antt and crates/tabled; what the stores make of an array in specs/Stored.antt, and of the table of some lines in
+// specs/More.antt. The flags of a state and the pairs of a `new` are put elsewhere: specs/Flags.antt and specs/Pool.antt say what they make of their tables.
 ghost use mathlib.Core.Path.{_≡_};
-ghost use mathlib.Core.List.{[], _∷_, _++_};
-ghost use Prim.Native.Nat.{_<_};
-ghost use lib.ListN.{length};
-ghost use Rattle.lists.specs.Lists.{flat};
-ghost use Rattle.values.specs.declared.Ty.{Ty};
+ghost use Prim.Native.Nat.{_+_, _*_, _<_};
+ghost use lib.ListN.{set};
 ghost use Rattle.programs.specs.Sizes.{SPENT};
-ghost use Rattle.programs.specs.declared.Expr.{Expr};
-ghost use Rattle.programs.specs.Program.{Variable, Stmt, Action, State, Move};
-ghost use Rattle.soundness.specs.Asked.{initOf};
-ghost use Rattle.machines.specs.Config.{Choice};
-ghost use Rattle.tabled.specs.Tabled.{byteOf, wordOf, tyCode, eventTable, exprRow, exprTable, stmtRow, stmtTable, stateKind, moveRow, moveTable, choiceTable};
-ghost use Rattle.putting.specs.Asked.{EventRoom, VariableTables, VariableRoom, ExprRoom, StmtRoom, ActionTables, ActionRoom, StateTables, StateRoom, MoveRoom, ChoiceRoom};
+ghost use Rattle.tabled.specs.Tabled.{byteOf, wordOf};
+ghost use Rattle.putting.specs.Asked.{EventRoom, VariableRoom, ExprRoom, StmtRoom, ActionRoom, StateRoom, MoveRoom, ChoiceRoom};
+ghost use Rattle.putting.specs.Stored.{more, oneStored, threeStored, fiveStored};
 use tables::Program;
 
 // A number in a word of 8 bits: one that is too large is the largest.
@@ -33,7 +27,7 @@ pub fn word_of(n: u32) -> u16
 // One more event, whose payload has the type at t.
 pub fn put_event(types: &mut [u8; Program::EVENTS + 1], t: u8)
     requires { ⌜ EventRoom (now types) ⌝ }
-    ensures { λ _. ⌜ ((h : EventRoom (now (types .entry))) (e : Ty) → tyCode e ≡ t → now (types .exit) ≡ eventTable (h .rows ++ e ∷ [])) ⌝ }
+    ensures { λ _. ⌜ now (types .exit) ≡ oneStored (now (types .entry)) t ⌝ }
 {
     let e = types[0] + 1;
     types[e as usize] = t;
@@ -48,8 +42,8 @@ pub fn put_variable(
     t: u8,
 )
     requires { ⌜ VariableRoom (now kinds) (now types) ⌝ }
-    ensures { λ _. ⌜ ((h : VariableRoom (now (kinds .entry)) (now (types .entry))) (v : Variable) → wordOf (v .of) ≡ k → tyCode (v .type) ≡ t
-        → VariableTables (h .rows ++ v ∷ []) (now (kinds .exit)) (now (types .exit))) ⌝ }
+    ensures { λ _. ⌜ now (kinds .exit) ≡ oneStored (now (kinds .entry)) k ⌝ }
+    ensures { λ _. ⌜ now (types .exit) ≡ set (now (types .entry)) (more (now (kinds .entry))) t ⌝ }
 {
     let x = kinds[0] + 1;
     kinds[x as usize] = k;
@@ -60,7 +54,7 @@ pub fn put_variable(
 // One more expression, whose row is k, x, y.
 pub fn put_expr(exprs: &mut [u32; 3 * (Program::EXPRESSIONS + 1)], k: u32, x: u32, y: u32)
     requires { ⌜ ExprRoom (now exprs) ⌝ }
-    ensures { λ _. ⌜ ((h : ExprRoom (now (exprs .entry))) (e : Expr) → exprRow e ≡ k ∷ x ∷ y ∷ [] → now (exprs .exit) ≡ exprTable (h .rows ++ e ∷ [])) ⌝ }
+    ensures { λ _. ⌜ now (exprs .exit) ≡ threeStored (now (exprs .entry)) k x y ⌝ }
 {
     let e = exprs[0] + 1;
     let row = 3 * (e as usize);
@@ -80,8 +74,7 @@ pub fn put_stmt(
     n: u16,
 )
     requires { ⌜ StmtRoom (now stmts) ⌝ }
-    ensures { λ _. ⌜ ((h : StmtRoom (now (stmts .entry))) (s : Stmt) → stmtRow (length (flat initOf (h .rows))) s ≡ k ∷ x ∷ y ∷ z ∷ n ∷ []
-        → now (stmts .exit) ≡ stmtTable (h .rows ++ s ∷ [])) ⌝ }
+    ensures { λ _. ⌜ now (stmts .exit) ≡ fiveStored (now (stmts .entry)) k x y z n ⌝ }
 {
     let s = stmts[0] + 1;
     let row = 5 * (s as usize);
@@ -101,8 +94,8 @@ pub fn put_action(
     b: u16,
 )
     requires { ⌜ ActionRoom (now kinds) (now bodies) ⌝ }
-    ensures { λ _. ⌜ ((h : ActionRoom (now (kinds .entry)) (now (bodies .entry))) (a : Action) → byteOf (a .of) ≡ k → wordOf (a .body) ≡ b
-        → ActionTables (h .rows ++ a ∷ []) (now (kinds .exit)) (now (bodies .exit))) ⌝ }
+    ensures { λ _. ⌜ now (kinds .exit) ≡ oneStored (now (kinds .entry)) k ⌝ }
+    ensures { λ _. ⌜ now (bodies .exit) ≡ set (now (bodies .entry)) (more (now (kinds .entry))) b ⌝ }
 {
     let a = kinds[0] + 1;
     kinds[a as usize] = k;
@@ -120,8 +113,9 @@ pub fn put_state(
     exit: u16,
 )
     requires { ⌜ StateRoom (now kinds) (now entries) (now exits) ⌝ }
-    ensures { λ _. ⌜ ((h : StateRoom (now (kinds .entry)) (now (entries .entry)) (now (exits .entry))) (s : State) → stateKind s ≡ k → wordOf (s .entry) ≡ entry
-        → wordOf (s .exit) ≡ exit → StateTables (h .rows ++ s ∷ []) (now (kinds .exit)) (now (entries .exit)) (now (exits .exit))) ⌝ }
+    ensures { λ _. ⌜ now (kinds .exit) ≡ oneStored (now (kinds .entry)) k ⌝ }
+    ensures { λ _. ⌜ now (entries .exit) ≡ set (now (entries .entry)) (more (now (kinds .entry))) entry ⌝ }
+    ensures { λ _. ⌜ now (exits .exit) ≡ set (now (exits .entry)) (more (now (kinds .entry))) exit ⌝ }
 {
     let n = kinds[0] + 1;
     kinds[n as usize] = k;
@@ -133,7 +127,7 @@ pub fn put_state(
 // One more move behind the n that there are, whose row is from, on, to.
 pub fn put_move(moves: &mut [u8; 3 * Program::MOVES], n: usize, from: u8, on: u8, to: u8)
     requires { ⌜ MoveRoom (now moves) n ⌝ }
-    ensures { λ _. ⌜ ((h : MoveRoom (now (moves .entry)) n) (m : Move) → moveRow m ≡ from ∷ on ∷ to ∷ [] → now (moves .exit) ≡ moveTable (h .rows ++ m ∷ [])) ⌝ }
+    ensures { λ _. ⌜ now (moves .exit) ≡ set (set (set (now (moves .entry)) (3 * n) from) (3 * n + 1) on) (3 * n + 2) to ⌝ }
 {
     let row = 3 * n;
     moves[row] = from;
@@ -145,8 +139,7 @@ pub fn put_move(moves: &mut [u8; 3 * Program::MOVES], n: usize, from: u8, on: u8
 pub fn put_choice(choices: &mut [u32; Program::CHOICES], n: usize, machine: u32, bits: u8)
     requires { ⌜ ChoiceRoom (now choices) n ⌝ }
     requires { ⌜ machine < SPENT ⌝ }
-    ensures { λ _. ⌜ ((h : ChoiceRoom (now (choices .entry)) n) (c : Choice) → c .machine ≡ machine → c .bits ≡ bits
-        → now (choices .exit) ≡ choiceTable (h .rows ++ c ∷ [])) ⌝ }
+    ensures { λ _. ⌜ now (choices .exit) ≡ set (now (choices .entry)) n (machine * 256 + bits) ⌝ }
 {
     choices[n] = machine * 256 + bits as u32;
 }

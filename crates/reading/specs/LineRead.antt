@@ -12,20 +12,21 @@ use lib.ListN.{length}
 use Rattle.answers.specs.declared.Answer.the-variants.{OutOfRange}
 use Rattle.texts.specs.Bytes.{LF}
 use Rattle.texts.specs.Forms.{Said, said}
-use Rattle.texts.specs.Reading.{put, kind, ordered, ranged, refused}
+use Rattle.texts.specs.Reading.{put, kind, ordered, ranged}
 use Rattle.numerals.specs.Splits.{span, Until, span-length}
 use Rattle.forms.specs.declared.Form.{Form}
 use Rattle.forms.specs.Recognised.{Recognised}
 use Rattle.forms.specs.Values.{init-held, defer-held}
 use Rattle.told.specs.Told.{line-told}
 use Rattle.spoken.specs.Spoken.{pairsAt, lineAt}
+use Rattle.spoken.specs.Took.{Took}
 use Rattle.lengths.specs.Counted.{movesIn, pairsIn}
 use Rattle.lengths.specs.Lengths.{said-bytes}
 use Rattle.taking_lines.specs.Rows.{step-row, call-row, act-row, kind-machine, kind-step, kind-call, kind-start}
 use Rattle.taking_lines.specs.Asked.{Gathered, LineAsked}
-use Rattle.reading.specs.Turns.{readFrom, read-unranged, read-on}
+use Rattle.reading.specs.Turns.{read-unranged, read-on}
 use Rattle.reading.specs.Order.{later-more, weighs-more}
-use Rattle.reading.specs.Loop.{LineTurn, Turned, order-low, order-start}
+use Rattle.reading.specs.Loop.{LineTurn, Turned, RefusedAt, order-low, order-start}
 
 -- the test of the order, by the kind that a form's number has
 pub ordered-told : (s : List ℕ) (last row : ℕ) (places : List ℕ) {k : ℕ} {t : Bool} → ((s places : List ℕ) → k ≡ kind (lineAt s places row)) → t ≡ cond (eqb k 11) (ltb last 11) (leb last k)
@@ -80,16 +81,18 @@ module _ {types owners holds rooms exprs : List ℕ} {kinds variables absent : �
     }
 
     -- OUT OF RANGE
-    pub line-unranged : ranged (h .lines) said-line ≡ false → (n : ℕ) → readFrom s last (h .lines) n i ≡ refused OutOfRange n
-    line-unranged q n = read-unranged s last (h .lines) n i e u l said-line says o q
+    pub line-unranged : {types' owners' holds' rooms' exprs' : List ℕ} {kinds' variables' absent' : ℕ} {stmts' inits' actors' bodies' homes' entries' exits' flags' moves' choices' : List ℕ} {pairs' steps' calls' acts' start' count' : ℕ} {r : Bool} {taken : Type 0} → Took r (ranged (h .lines) said-line) taken (Gathered (h .lines) types' owners' holds' rooms' exprs' kinds' variables' absent' stmts' inits' actors' bodies' homes' entries' exits' flags' moves' choices' pairs' steps' calls' acts' start' count')
+        → r ≡ false → RefusedAt s last i (h .lines) OutOfRange types' owners' holds' rooms' exprs' kinds' variables' absent' stmts' inits' actors' bodies' homes' entries' exits' flags' moves' choices' pairs' steps' calls' acts' start' count'
+    line-unranged t q = record { same = λ n. read-unranged s last (h .lines) n i e u l said-line says o (sym (t .told) ∙ q); gathered = t .left q }
 
     -- READ
-    pub line-read : {types' owners' holds' rooms' exprs' : List ℕ} {kinds' variables' absent' : ℕ} {stmts' inits' actors' bodies' homes' entries' exits' flags' moves' choices' : List ℕ} {pairs' steps' calls' acts' start' count' : ℕ} {k : ℕ} → k ≡ kind said-line → ranged (h .lines) said-line ≡ true → Gathered (put said-line (h .lines)) types' owners' holds' rooms' exprs' kinds' variables' absent' stmts' inits' actors' bodies' homes' entries' exits' flags' moves' choices' pairs' steps' calls' acts' start' count'
+    pub line-read : {types' owners' holds' rooms' exprs' : List ℕ} {kinds' variables' absent' : ℕ} {stmts' inits' actors' bodies' homes' entries' exits' flags' moves' choices' : List ℕ} {pairs' steps' calls' acts' start' count' : ℕ} {k : ℕ} {r : Bool} {kept : Type 0} → k ≡ kind said-line
+        → Took r (ranged (h .lines) said-line) (Gathered (put said-line (h .lines)) types' owners' holds' rooms' exprs' kinds' variables' absent' stmts' inits' actors' bodies' homes' entries' exits' flags' moves' choices' pairs' steps' calls' acts' start' count') kept → r ≡ true
         → Turned s last i (h .lines) (e + 1) k types' owners' holds' rooms' exprs' kinds' variables' absent' stmts' inits' actors' bodies' homes' entries' exits' flags' moves' choices' pairs' steps' calls' acts' start' count'
-    line-read z q g = rw z (record {
+    line-read z t q = rw z (record {
       lines = put said-line (h .lines);
-      same = λ n. read-on s last (h .lines) n i e u l said-line says o q;
-      gathered = g;
+      same = λ n. read-on s last (h .lines) n i e u l said-line says o (sym (t .told) ∙ q);
+      gathered = t .done q;
       later = later-more last (h .lines) said-line o (h .later);
       weighs = let z : i + (e - i + 1) ≡ e + 1 = omega (arith, u .low) in
           rw z at (weighs-more (h .lines) said-line i (e - i + 1) (h .weighs) (omega arith) (bytes .0) (bytes .1));

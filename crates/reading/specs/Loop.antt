@@ -9,6 +9,7 @@ use native.Mathlib.Omega.{arith}
 use borrow.Author.Tests.{eq-eqb, ne-eqb, leb-true, ltb-true}
 use lib.Dec.{leb}
 use lib.ListN.{length}
+use Rattle.answers.specs.declared.Answer.{Answer}
 use Rattle.programs.specs.Sizes.{TEXT}
 use Rattle.texts.specs.Bytes.{LF}
 use Rattle.texts.specs.Forms.{Said}
@@ -40,10 +41,15 @@ pub record Turned (s : List ℕ) (last i : ℕ) (a : Tables) (j k : ℕ) (types 
   pub further : i < j
   pub inside : j ≤ length s
 
+-- AFTER A LINE that is refused: the arrays hold the lines in front of it
+pub record RefusedAt (s : List ℕ) (last i : ℕ) (a : Tables) (b : Answer) (types owners holds rooms exprs : List ℕ) (kinds variables absent : ℕ) (stmts inits actors bodies homes entries exits flags moves choices : List ℕ) (pairs steps calls acts start count : ℕ) : Type 0 where
+  pub same : (n : ℕ) → readFrom s last a n i ≡ (refused b n, a)
+  pub gathered : Gathered a types owners holds rooms exprs kinds variables absent stmts inits actors bodies homes entries exits flags moves choices pairs steps calls acts start count
+
 -- what comes of a line
 abbrev pub TurnedAs : List ℕ → ℕ → ℕ → Tables → Turn → List ℕ → List ℕ → List ℕ → List ℕ → List ℕ → ℕ → ℕ → ℕ → List ℕ → List ℕ → List ℕ → List ℕ → List ℕ → List ℕ → List ℕ → List ℕ → List ℕ → List ℕ → ℕ → ℕ → ℕ → ℕ → ℕ → ℕ → Type 0
 TurnedAs s last i a (On j k) types owners holds rooms exprs kinds variables absent stmts inits actors bodies homes entries exits flags moves choices pairs steps calls acts start count = Turned s last i a j k types owners holds rooms exprs kinds variables absent stmts inits actors bodies homes entries exits flags moves choices pairs steps calls acts start count
-TurnedAs s last i a (Refused b) types owners holds rooms exprs kinds variables absent stmts inits actors bodies homes entries exits flags moves choices pairs steps calls acts start count = (n : ℕ) → readFrom s last a n i ≡ refused b n
+TurnedAs s last i a (Refused b) types owners holds rooms exprs kinds variables absent stmts inits actors bodies homes entries exits flags moves choices pairs steps calls acts start count = RefusedAt s last i a b types owners holds rooms exprs kinds variables absent stmts inits actors bodies homes entries exits flags moves choices pairs steps calls acts start count
 
 -- THE ORDER of a line in its place
 -- where its kind is at most k, below the start's, so is the last one's,

@@ -1,4 +1,5 @@
--- The definition's reading of a text (crates/texts), from a place of the text on: line by line, as a loop over the places does it.
+-- The definition's reading of a text (crates/texts), from a place of the text on: line by line, as a loop over the places does it; and the lines that are held
+-- when it ends.
 use Prim.Native.Nat.{ℕ, _+_, _≤_, _<_}
 use mathlib.Core.Path.{_≡_, refl, ap, sym, _∙_}
 use mathlib.Core.Option.{Option, none, some}
@@ -14,17 +15,50 @@ use Rattle.texts.specs.Forms.{Said, said}
 use Rattle.texts.specs.Reading.{Tables, nothing, put, kind, ordered, ranged, Result, refused, whole, reading}
 use Rattle.numerals.specs.Splits.{span, Until, span-length, span-rest, span-whole, split-next, split-end}
 
--- THE REST of the reading: the lines from place i on, of which the first is line k, after the lines a, the last of which is of kind `last`
-abbrev pub readFrom : List ℕ → ℕ → Tables → ℕ → ℕ → Result
-readFrom s last a k i = reading last a k (split LF (span i (length s) s))
-
 -- a line x in the form, with more behind it
-abbrev pub readLine : ℕ → Tables → ℕ → Said → Result → Result
-readLine last a k x after = cond (ordered last x) (cond (ranged a x) after (refused OutOfRange k)) (refused NotInForm k)
+abbrev pub readLine : ℕ → Tables → ℕ → Said → Result × Tables → Result × Tables
+readLine last a k x after = cond (ordered last x) (cond (ranged a x) after (refused OutOfRange k, a)) (refused NotInForm k, a)
+
+-- WHAT THE LINES COME TO, with the lines that are held then: all of them, or those in front of the first that is refused
+abbrev pub readTo : ℕ → Tables → ℕ → List (List ℕ) → Result × Tables
+readTo last a k [] = (whole a k, a)
+readTo last a k ([] ∷ []) = (whole a k, a)
+readTo last a k ((b ∷ l) ∷ []) = (refused NotInForm k, a)
+readTo last a k (l ∷ m ∷ ls) = onOpt (said l) (refused NotInForm k, a) (λ x. readLine last a k x (readTo (kind x) (put x a) (k + 1) (m ∷ ls)))
+
+-- a line says what it does in the definition, if the lines behind it do
+line : (last : ℕ) (a : Tables) (k : ℕ) (m : List ℕ) (ls : List (List ℕ)) (o : Option Said)
+    → ((x : Said) → readTo (kind x) (put x a) (k + 1) (m ∷ ls) .0 ≡ reading (kind x) (put x a) (k + 1) (m ∷ ls))
+    → onOpt o (refused NotInForm k, a) (λ x. readLine last a k x (readTo (kind x) (put x a) (k + 1) (m ∷ ls))) .0
+    ≡ onOpt o (refused NotInForm k) (λ x. cond (ordered last x) (cond (ranged a x) (reading (kind x) (put x a) (k + 1) (m ∷ ls)) (refused OutOfRange k)) (refused NotInForm k))
+line last a k m ls none h = refl
+line last a k m ls (some x) h = go (ordered last x) (ranged a x) (readTo (kind x) (put x a) (k + 1) (m ∷ ls)) (h x)
+  where
+    go : (o r : Bool) (t : Result × Tables) {z : Result} → t .0 ≡ z
+        → cond o (cond r t (refused OutOfRange k, a)) (refused NotInForm k, a) .0 ≡ cond o (cond r z (refused OutOfRange k)) (refused NotInForm k)
+    go true true t e = e
+    go true false t e = refl
+    go false r t e = refl
+
+-- they come to what the definition says
+pub read-is : (last : ℕ) (a : Tables) (k : ℕ) (ls : List (List ℕ)) → readTo last a k ls .0 ≡ reading last a k ls
+read-is last a k [] = refl
+read-is last a k ([] ∷ []) = refl
+read-is last a k ((b ∷ l) ∷ []) = refl
+read-is last a k ([] ∷ m ∷ ls) = line last a k m ls (said []) (λ x. read-is (kind x) (put x a) (k + 1) (m ∷ ls))
+read-is last a k ((b ∷ l) ∷ m ∷ ls) = line last a k m ls (said (b ∷ l)) (λ x. read-is (kind x) (put x a) (k + 1) (m ∷ ls))
+
+-- THE LINES THAT ARE HELD when a text is read: all, or those in front of the first that is refused
+abbrev pub heldLines : List ℕ → Tables
+heldLines s = readTo 0 nothing 1 (split LF s) .1
+
+-- THE REST of the reading: the lines from place i on, of which the first is line k, after the lines a, the last of which is of kind `last`
+abbrev pub readFrom : List ℕ → ℕ → Tables → ℕ → ℕ → Result × Tables
+readFrom s last a k i = readTo last a k (split LF (span i (length s) s))
 
 -- at first
-pub read-first : (s : List ℕ) → reading 0 nothing 1 (split LF s) ≡ readFrom s 0 nothing 1 0
-read-first s = ap (λ (l : List ℕ). reading 0 nothing 1 (split LF l)) (sym (span-whole s))
+pub read-first : (s : List ℕ) → readTo 0 nothing 1 (split LF s) ≡ readFrom s 0 nothing 1 0
+read-first s = ap (λ (l : List ℕ). readTo 0 nothing 1 (split LF l)) (sym (span-whole s))
 
 -- there is always a part
 split-some : (s : List ℕ) → (m : List ℕ) × (ls : List (List ℕ)) × (split LF s ≡ m ∷ ls)
@@ -37,52 +71,52 @@ split-some (b ∷ s) = go (eqb b LF) (split-some s)
 
 module _ (s : List ℕ) (last : ℕ) (a : Tables) (k i : ℕ) where
   -- AT THE END: all lines are read
-  pub read-end : length s ≤ i → readFrom s last a k i ≡ whole a k
-  read-end h = ap (λ (l : List ℕ). reading last a k (split LF l)) (span-rest i s ∙ drop-of-length-le s h)
+  pub read-end : length s ≤ i → readFrom s last a k i ≡ (whole a k, a)
+  read-end h = ap (λ (l : List ℕ). readTo last a k (split LF l)) (span-rest i s ∙ drop-of-length-le s h)
 
   module _ (e : ℕ) (u : Until LF s i (length s) e) where
     -- A LAST LINE WITHOUT ITS LF
-    pub read-cut : i < length s → length s ≤ e → readFrom s last a k i ≡ refused NotInForm k
+    pub read-cut : i < length s → length s ≤ e → readFrom s last a k i ≡ (refused NotInForm k, a)
     read-cut h l =
-        ap (reading last a k) (split-end LF s i (length s) e (omega arith) u l)
+        ap (readTo last a k) (split-end LF s i (length s) e (omega arith) u l)
         ∙ go (span i e s) (omega (arith, span-length i e s (omega (arith, u .high)), u .high))
       where
-        go : (l : List ℕ) → 0 < length l → reading last a k (l ∷ []) ≡ refused NotInForm k
+        go : (l : List ℕ) → 0 < length l → readTo last a k (l ∷ []) ≡ (refused NotInForm k, a)
         go [] h = absurd (omega arith)
         go (b ∷ l) h = refl
 
     -- A LINE with its LF
     next : e < length s → (m : List ℕ) (ls : List (List ℕ)) → split LF (span (e + 1) (length s) s) ≡ m ∷ ls → (l : List ℕ)
-        → reading last a k (l ∷ split LF (span (e + 1) (length s) s))
-        ≡ onOpt (said l) (refused NotInForm k) (λ x. readLine last a k x (readFrom s (kind x) (put x a) (k + 1) (e + 1)))
+        → readTo last a k (l ∷ split LF (span (e + 1) (length s) s))
+        ≡ onOpt (said l) (refused NotInForm k, a) (λ x. readLine last a k x (readFrom s (kind x) (put x a) (k + 1) (e + 1)))
     next h m ls q l = rw q (go l)
       where
-        go : (l : List ℕ) → reading last a k (l ∷ m ∷ ls) ≡ onOpt (said l) (refused NotInForm k) (λ x. readLine last a k x (reading (kind x) (put x a) (k + 1) (m ∷ ls)))
+        go : (l : List ℕ) → readTo last a k (l ∷ m ∷ ls) ≡ onOpt (said l) (refused NotInForm k, a) (λ x. readLine last a k x (readTo (kind x) (put x a) (k + 1) (m ∷ ls)))
         go [] = refl
         go (b ∷ l) = refl
 
     pub read-next : e < length s
-        → readFrom s last a k i ≡ onOpt (said (span i e s)) (refused NotInForm k) (λ x. readLine last a k x (readFrom s (kind x) (put x a) (k + 1) (e + 1)))
+        → readFrom s last a k i ≡ onOpt (said (span i e s)) (refused NotInForm k, a) (λ x. readLine last a k x (readFrom s (kind x) (put x a) (k + 1) (e + 1)))
     read-next h =
         let r = split-some (span (e + 1) (length s) s) in
-        ap (reading last a k) (split-next LF s i (length s) e (omega arith) u h) ∙ next h (r .0) (r .1) (r .2) (span i e s)
+        ap (readTo last a k) (split-next LF s i (length s) e (omega arith) u h) ∙ next h (r .0) (r .1) (r .2) (span i e s)
 
     -- in no form
-    pub read-formless : e < length s → said (span i e s) ≡ none → readFrom s last a k i ≡ refused NotInForm k
-    read-formless h n = read-next h ∙ ap (λ (o : Option Said). onOpt o (refused NotInForm k) (λ x. readLine last a k x (readFrom s (kind x) (put x a) (k + 1) (e + 1)))) n
+    pub read-formless : e < length s → said (span i e s) ≡ none → readFrom s last a k i ≡ (refused NotInForm k, a)
+    read-formless h n = read-next h ∙ ap (λ (o : Option Said). onOpt o (refused NotInForm k, a) (λ x. readLine last a k x (readFrom s (kind x) (put x a) (k + 1) (e + 1)))) n
 
     module _ (h : e < length s) (x : Said) (q : said (span i e s) ≡ some x) where
-      line : readFrom s last a k i ≡ readLine last a k x (readFrom s (kind x) (put x a) (k + 1) (e + 1))
-      line = read-next h ∙ ap (λ (o : Option Said). onOpt o (refused NotInForm k) (λ y. readLine last a k y (readFrom s (kind y) (put y a) (k + 1) (e + 1)))) q
+      in-form : readFrom s last a k i ≡ readLine last a k x (readFrom s (kind x) (put x a) (k + 1) (e + 1))
+      in-form = read-next h ∙ ap (λ (o : Option Said). onOpt o (refused NotInForm k, a) (λ y. readLine last a k y (readFrom s (kind y) (put y a) (k + 1) (e + 1)))) q
 
       -- out of order
-      pub read-disordered : ordered last x ≡ false → readFrom s last a k i ≡ refused NotInForm k
-      read-disordered o = line ∙ rw o
+      pub read-disordered : ordered last x ≡ false → readFrom s last a k i ≡ (refused NotInForm k, a)
+      read-disordered o = in-form ∙ rw o
 
       -- out of range
-      pub read-unranged : ordered last x ≡ true → ranged a x ≡ false → readFrom s last a k i ≡ refused OutOfRange k
-      read-unranged o r = line ∙ rw (o, r)
+      pub read-unranged : ordered last x ≡ true → ranged a x ≡ false → readFrom s last a k i ≡ (refused OutOfRange k, a)
+      read-unranged o r = in-form ∙ rw (o, r)
 
       -- read: one line more
       pub read-on : ordered last x ≡ true → ranged a x ≡ true → readFrom s last a k i ≡ readFrom s (kind x) (put x a) (k + 1) (e + 1)
-      read-on o r = line ∙ rw (o, r)
+      read-on o r = in-form ∙ rw (o, r)

@@ -1,5 +1,5 @@
 -- One more variable: what the code tests is what is asked of the line, there is room for it where its kind is there, and what the arrays hold with it.
-use Prim.Native.Nat.{ℕ, zero, suc, _+_, _*_, _≤_, _<_, min}
+use Prim.Native.Nat.{ℕ, zero, suc, _+_, _-_, _*_, _≤_, _<_, min}
 use mathlib.Core.Path.{_≡_, refl, ap, sym, _∙_}
 use mathlib.Core.Bool.{Bool, true, false, not, _&&_, _||_}
 use mathlib.Core.List.{List, [], _∷_, _++_}
@@ -9,8 +9,8 @@ use native.Mathlib.Numerals.{add-one}
 use native.Mathlib.Omega.{arith}
 use borrow.Author.Tests.{eqb-true, eq-eqb, ne-eqb, ltb-true}
 use lib.Dec.{eqb, ltb}
-use lib.ListN.{length, getD, length-append, List·getD-append}
-use lib.Seq.{getD-append-seam}
+use lib.ListN.{length, take, getD, length-append, List·getD-append}
+use lib.Seq.{take-append-seam, take-append-le, getD-append-seam}
 use Rattle.lists.specs.Lists.{All, There, there, keep, at}
 use Rattle.lists.specs.Facts.{All-append, All-at}
 use Rattle.lists.specs.Keep.{keep-snoc, keep-length}
@@ -91,7 +91,7 @@ module _ {vs : List Variable} {ms : ℕ} {owners holds rooms : List ℕ} {n abse
 
 -- WITH ONE MORE
 -- a fact of every element is one of number j
-every-at : {A : Type 0} (P : A → Type 0) (d : A) (l : List A) (j : ℕ) → 1 ≤ j → j ≤ length l → All P l → P (at d l j)
+pub every-at : {A : Type 0} (P : A → Type 0) (d : A) (l : List A) (j : ℕ) → 1 ≤ j → j ≤ length l → All P l → P (at d l j)
 every-at P d l zero a b h = absurd (omega arith)
 every-at P d l (suc i) a b h = All-at P d l i (omega arith) h
 
@@ -123,42 +123,42 @@ module _ {vs : List Variable} {ms : ℕ} {owners holds rooms : List ℕ} {n abse
 
   -- what has come of it
   data Come : Type 0 where
-    behind : (absent ≡ 0 → ⊥) → absent′ ≡ absent → Come
-    noted : absent ≡ 0 → (There ms (v .of) → ⊥) → absent′ ≡ n + 1 → Come
+    behind : (absent ≡ 0 → ⊥) → absent′ ≡ absent → (owners′ ≡ owners) × (holds′ ≡ holds) → Come
+    noted : absent ≡ 0 → (There ms (v .of) → ⊥) → absent′ ≡ n + 1 → (owners′ ≡ owners) × (holds′ ≡ holds) → Come
     put : absent ≡ 0 → There ms (v .of) → absent′ ≡ 0 → VariableTables (vs ++ v ∷ []) owners′ holds′ → Come
 
   come : Come
-  come = dite (ℕ-discrete absent 0) (λ z. go z (there ms (v .of)) refl) (λ z. behind z (entered .behind z .0))
+  come = dite (ℕ-discrete absent 0) (λ z. go z (there ms (v .of)) refl) (λ z. let p = entered .behind z in behind z (p .0) (p .1))
     where
       go : absent ≡ 0 → (b : Bool) → there ms (v .of) ≡ b → Come
       go z true e =
           let b = there-is ms (v .of) .holds e in
           let p = entered .put z (found ∙ e) in
           put z b (p .0) (p .1 (record { rows = vs; held = h .tables z; room = space h m z (v .of) b (roomy b) }) v (sym (ap wordOf cut ∙ word-kept (v .of))) type)
-      go z false e = noted z (denied (there-is ms (v .of)) e) (entered .noted z (found ∙ e) .0)
+      go z false e = let p = entered .noted z (found ∙ e) in noted z (denied (there-is ms (v .of)) e) (p .0) (p .1)
 
   -- the tables
   tables-more : Come → absent′ ≡ 0 → VariableTables (vs ++ v ∷ []) owners′ holds′
-  tables-more (behind z e) q = absurd (z (sym e ∙ q))
-  tables-more (noted z b e) q = absurd (omega arith)
+  tables-more (behind z e k) q = absurd (z (sym e ∙ q))
+  tables-more (noted z b e k) q = absurd (omega arith)
   tables-more (put z b e w) q = w
 
   -- the kinds that are there
   there-more : Come → absent′ ≡ 0 → All (λ w. There ms (w .of)) (vs ++ v ∷ [])
-  there-more (behind z e) q = absurd (z (sym e ∙ q))
-  there-more (noted z b e) q = absurd (omega arith)
+  there-more (behind z e k) q = absurd (z (sym e ∙ q))
+  there-more (noted z b e k) q = absurd (omega arith)
   there-more (put z b e w) q = All-append (λ u. There ms (u .of)) vs (v ∷ []) (h .there z) (b, tt)
 
   -- the first whose kind is not
   first-more : Come → (absent′ ≡ 0 → ⊥) → FirstAbsent (vs ++ v ∷ []) ms absent′
-  first-more (behind z e) q =
+  first-more (behind z e k) q =
       let f = h .first z in
       rw e (record {
         here = (f .here .0, omega (arith, f .here .1, length-append vs (v ∷ [])));
         lower = λ j a b. rw (at-snoc vs v j (omega (arith, f .here .1))) (f .lower j a b);
         absent = rw (at-snoc vs v absent (f .here .1)) (f .absent);
       })
-  first-more (noted z b e) q =
+  first-more (noted z b e k) q =
       let i : absent′ ≡ length vs + 1 = omega (arith, h .count) in
       rw i (record {
         here = (omega arith, omega (arith, length-append vs (v ∷ [])));
@@ -166,6 +166,15 @@ module _ {vs : List Variable} {ms : ℕ} {owners holds rooms : List ℕ} {n abse
         absent = rw (at-last vs v) b;
       })
   first-more (put z b e w) q = absurd (q e)
+
+  -- the tables in front of it
+  front-more : Come → (absent′ ≡ 0 → ⊥) → VariableTables (take (absent′ - 1) (vs ++ v ∷ [])) owners′ holds′
+  front-more (behind z e k) q =
+      rw (e, k .0, k .1, take-append-le (absent - 1) vs (v ∷ []) (omega (arith, h .first z .here .1))) (h .front z)
+  front-more (noted z b e k) q =
+      let i : absent′ - 1 ≡ length vs = omega (arith, h .count) in
+      rw (i, k .0, k .1, take-append-seam vs (v ∷ [])) (h .tables z)
+  front-more (put z b e w) q = absurd (q e)
 
   -- all of it
   pub held-more : VariablesHeld (vs ++ v ∷ []) ms owners′ holds′ rooms′ (n + 1) absent′
@@ -177,4 +186,5 @@ module _ {vs : List Variable} {ms : ℕ} {owners holds rooms : List ℕ} {n abse
     tables = tables-more come;
     there = there-more come;
     first = first-more come;
+    front = front-more come;
   }

@@ -44,6 +44,7 @@ vars-raised h = record {
   tables = h .tables;
   there = λ z. tt;
   first = λ z. let f = h .first z in absurd (omega (arith, f .here .0, f .here .1));
+  front = h .front;
 }
 
 module _ {types owners holds rooms exprs : List ℕ} {kinds variables absent : ℕ} (a : Tables) (f : Front a types owners holds rooms exprs kinds variables absent) where

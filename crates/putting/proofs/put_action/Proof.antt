@@ -1,7 +1,8 @@
 -- `putting::put_action` meets its contract: the kind and the statement are stored behind those that are there, and counted. Assumes nothing.
+use mathlib.Core.Path.{refl}
 use native.Mathlib.Omega.{arith}
 use borrow.Author.Needs.{needs}
-use Rattle.putting.specs.More.{action-room, action-put}
+use Rattle.putting.specs.More.{action-room}
 use Rattle.putting.proofs.put_action.Statement.{statement}
 use Rattle.putting.proofs.put_action.Tie as tie
 
@@ -30,7 +31,7 @@ element-write-kinds-2 : tie.Need-element-write-kinds-2
 element-write-kinds-2 c = search needs
 
 returns : tie.Need-returns
-returns c h a p q = action-put h a p q
+returns c = (refl, refl)
 
 pub put-action-spec : {M : Type 1} → statement M
 put-action-spec =

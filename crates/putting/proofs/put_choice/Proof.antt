@@ -1,6 +1,6 @@
 -- `putting::put_choice` meets its contract: the number is stored behind those that are there. Assumes nothing.
+use mathlib.Core.Path.{refl}
 use borrow.Author.Needs.{needs}
-use Rattle.putting.specs.More.{choice-put}
 use Rattle.putting.proofs.put_choice.Statement.{statement}
 use Rattle.putting.proofs.put_choice.Tie as tie
 
@@ -17,7 +17,7 @@ element-write-choices : tie.Need-element-write-choices
 element-write-choices c = search needs
 
 returns : tie.Need-returns
-returns c h d p q = choice-put h d p q
+returns c = refl
 
 pub put-choice-spec : {M : Type 1} → statement M
 put-choice-spec =

@@ -1,7 +1,8 @@
 -- `putting::put_event` meets its contract: the type is stored behind those that are there, and counted. Assumes nothing.
+use mathlib.Core.Path.{refl}
 use native.Mathlib.Omega.{arith}
 use borrow.Author.Needs.{needs}
-use Rattle.putting.specs.More.{event-room, event-put}
+use Rattle.putting.specs.More.{event-room}
 use Rattle.putting.proofs.put_event.Statement.{statement}
 use Rattle.putting.proofs.put_event.Tie as tie
 
@@ -21,7 +22,7 @@ element-write-types-2 : tie.Need-element-write-types-2
 element-write-types-2 c = search needs
 
 returns : tie.Need-returns
-returns c h e q = event-put h e q
+returns c = refl
 
 pub put-event-spec : {M : Type 1} → statement M
 put-event-spec =

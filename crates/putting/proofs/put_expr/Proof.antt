@@ -1,7 +1,8 @@
 -- `putting::put_expr` meets its contract: the row is stored behind those that are there, and counted. Assumes nothing.
+use mathlib.Core.Path.{refl}
 use native.Mathlib.Omega.{arith}
 use borrow.Author.Needs.{needs}
-use Rattle.putting.specs.More.{expr-room, expr-put}
+use Rattle.putting.specs.More.{expr-room}
 use Rattle.putting.proofs.put_expr.Statement.{statement}
 use Rattle.putting.proofs.put_expr.Tie as tie
 
@@ -45,7 +46,7 @@ element-write-exprs-4 : tie.Need-element-write-exprs-4
 element-write-exprs-4 c = search needs
 
 returns : tie.Need-returns
-returns c h e q = expr-put h e q
+returns c = refl
 
 pub put-expr-spec : {M : Type 1} → statement M
 put-expr-spec =

@@ -1,6 +1,6 @@
 -- `putting::put_move` meets its contract: the row is stored behind those that are there. Assumes nothing.
+use mathlib.Core.Path.{refl}
 use borrow.Author.Needs.{needs}
-use Rattle.putting.specs.More.{move-put}
 use Rattle.putting.proofs.put_move.Statement.{statement}
 use Rattle.putting.proofs.put_move.Tie as tie
 
@@ -23,7 +23,7 @@ element-write-moves-3 : tie.Need-element-write-moves-3
 element-write-moves-3 c = search needs
 
 returns : tie.Need-returns
-returns c h m q = move-put h m q
+returns c = refl
 
 pub put-move-spec : {M : Type 1} → statement M
 put-move-spec =

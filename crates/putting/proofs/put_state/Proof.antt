@@ -1,7 +1,8 @@
 -- `putting::put_state` meets its contract: the kind and the statements are stored behind those that are there, and counted. Assumes nothing.
+use mathlib.Core.Path.{refl}
 use native.Mathlib.Omega.{arith}
 use borrow.Author.Needs.{needs}
-use Rattle.putting.specs.More.{state-room, state-put}
+use Rattle.putting.specs.More.{state-room}
 use Rattle.putting.proofs.put_state.Statement.{statement}
 use Rattle.putting.proofs.put_state.Tie as tie
 
@@ -39,7 +40,7 @@ element-write-kinds-2 : tie.Need-element-write-kinds-2
 element-write-kinds-2 c = search needs
 
 returns : tie.Need-returns
-returns c h s p q r = state-put h s p q r
+returns c = (refl, (refl, refl))
 
 pub put-state-spec : {M : Type 1} → statement M
 put-state-spec =

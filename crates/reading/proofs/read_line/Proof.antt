@@ -1,5 +1,5 @@
 -- `reading::read_line` meets its contract: the line is found, recognised, tested and taken. Assumes nothing.
-use mathlib.Core.Path.{sym, _∙_}
+use mathlib.Core.Path.{_∙_}
 use native.Mathlib.Omega.{arith}
 use borrow.Author.Needs.{needs}
 use borrow.Author.Tests.{not-true, not-false}
@@ -16,7 +16,7 @@ until-requires c κs = search needs
 returns : tie.Need-returns
 returns c =
     let a = c .before .before .before .args in
-    λ h n. read-cut (a .s .now) (a .last) (h .lines) n (a .at) _ (c .before .until .ensures) (h .inside) (c .if1 .taken)
+    λ h. record { same = λ n. read-cut (a .s .now) (a .last) (h .lines) n (a .at) _ (c .before .until .ensures) (h .inside) (c .if1 .taken); gathered = h .gathered }
 
 form-of-requires : tie.Need-form-of-requires
 form-of-requires c κs = line-at _ _ _ (c .before .until .ensures)
@@ -27,7 +27,10 @@ returns-2 c =
     let ended = found .before .before in
     let a = ended .before .before .args in
     let w = found .form-of .ensures in
-    λ h n. read-formless (a .s .now) (a .last) (h .lines) n (a .at) _ (ended .until .ensures) (found .before .if1 .left) (line-none (a .s .now) (a .at) _ (found .form-of .result) w (omega (arith, w .low, c .if2 .taken)))
+    λ h. record {
+      same = λ n. read-formless (a .s .now) (a .last) (h .lines) n (a .at) _ (ended .until .ensures) (found .before .if1 .left) (line-none (a .s .now) (a .at) _ (found .form-of .result) w (omega (arith, w .low, c .if2 .taken)));
+      gathered = h .gathered;
+    }
 
 kind-of-requires : tie.Need-kind-of-requires
 kind-of-requires c κs = search needs
@@ -46,8 +49,11 @@ returns-3 c =
     let r = found .form-of .result in
     let w = found .form-of .ensures in
     let u = ended .until .ensures in
-    λ h n. read-disordered (a .s .now) (a .last) (h .lines) n (a .at) _ u (found .before .if1 .left) _ (says (a .s .now) (a .last) (a .at) h _ u (found .before .if1 .left) r w (known .before .if2 .left))
-    (ordered-told (a .s .now) (a .last) (r .row) (r .at) (known .kind-of .ensures) (ordering .in-order .ensures) ∙ not-true _ (c .if3 .taken))
+    λ h. record {
+      same = λ n. read-disordered (a .s .now) (a .last) (h .lines) n (a .at) _ u (found .before .if1 .left) _ (says (a .s .now) (a .last) (a .at) h _ u (found .before .if1 .left) r w (known .before .if2 .left))
+          (ordered-told (a .s .now) (a .last) (r .row) (r .at) (known .kind-of .ensures) (ordering .in-order .ensures) ∙ not-true _ (c .if3 .taken));
+      gathered = h .gathered;
+    }
 
 take-line-requires : tie.Need-take-line-requires
 take-line-requires c κs =
@@ -76,7 +82,7 @@ returns-4 c =
     let u = ended .until .ensures in
     let o = ordered-told (a .s .now) (a .last) (r .row) (r .at) (known .kind-of .ensures) (ordering .in-order .ensures) ∙ not-false _ (c .before .before .before .before .before .before .before .before .before .before .before .before .before .before .before .before .before .before .before .before .before .before .before .before .before .before .before .if3 .left) in
     λ h. line-unranged (a .s .now) (a .last) (a .at) h _ u (found .before .if1 .left) r w (known .before .if2 .left) o
-    (sym (c .before .take-line .ensures (line-asked (a .s .now) (a .last) (a .at) h _ u (found .before .if1 .left) r w (known .before .if2 .left) o) .told) ∙ not-true _ (c .if4 .taken))
+    (c .before .take-line .ensures (line-asked (a .s .now) (a .last) (a .at) h _ u (found .before .if1 .left) r w (known .before .if2 .left) o)) (not-true _ (c .if4 .taken))
 
 add-t33 : tie.Need-add-t33
 add-t33 c =
@@ -96,10 +102,8 @@ returns-5 c =
     let w = found .form-of .ensures in
     let u = ended .until .ensures in
     let o = ordered-told (a .s .now) (a .last) (r .row) (r .at) (known .kind-of .ensures) (ordering .in-order .ensures) ∙ not-false _ (c .before .before .before .before .before .before .before .before .before .before .before .before .before .before .before .before .before .before .before .before .before .before .before .before .before .before .before .if3 .left) in
-    λ h.
-    let t = c .before .take-line .ensures (line-asked (a .s .now) (a .last) (a .at) h _ u (found .before .if1 .left) r w (known .before .if2 .left) o) in
-    let q = not-false _ (c .if4 .left) in
-    line-read (a .s .now) (a .last) (a .at) h _ u (found .before .if1 .left) r w (known .before .if2 .left) o (known .kind-of .ensures (a .s .now) (r .at)) (sym (t .told) ∙ q) (t .done q)
+    λ h. line-read (a .s .now) (a .last) (a .at) h _ u (found .before .if1 .left) r w (known .before .if2 .left) o (known .kind-of .ensures (a .s .now) (r .at))
+    (c .before .take-line .ensures (line-asked (a .s .now) (a .last) (a .at) h _ u (found .before .if1 .left) r w (known .before .if2 .left) o)) (not-false _ (c .if4 .left))
 
 pub read-line-spec : {M : Type 1} → statement M
 read-line-spec =

@@ -3,6 +3,7 @@ use mathlib.Core.Path.{refl, sym, _∙_}
 use mathlib.Core.Bool.{true≢false}
 use borrow.Author.Needs.{needs}
 use borrow.Author.Tests.{not-true, not-false}
+use Rattle.putting.specs.More.{variable-put}
 use Rattle.taking.proofs.enter.Statement.{statement}
 use Rattle.taking.proofs.enter.Tie as tie
 
@@ -42,7 +43,7 @@ returns-3 c =
     record {
       behind = λ z. absurd (z (f .if1 .left));
       noted = λ z b. absurd (true≢false (sym e ∙ b));
-      put = λ z b. (f .if1 .left, λ h v q t. c .put-variable .ensures h v (q ∙ sym (c .before .word-of .ensures)) t);
+      put = λ z b. (f .if1 .left, λ h v q t. variable-put h v (q ∙ sym (c .before .word-of .ensures)) t (c .put-variable .ensures));
     }
 
 pub enter-spec : {M : Type 1} → statement M

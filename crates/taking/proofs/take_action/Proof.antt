@@ -6,6 +6,7 @@ use borrow.Author.Tests.{not-true, not-false}
 use Rattle.programs.specs.Sizes.{ACTIONS}
 use Rattle.spoken.specs.Counted.{next-told}
 use Rattle.spoken.specs.Took.{took, refused}
+use Rattle.putting.specs.More.{action-put}
 use Rattle.taking.specs.Held.{actions-count, actions-few, action-room, byte-written, word-written}
 use Rattle.taking.specs.Lines.{action-says}
 use Rattle.taking.proofs.take_action.Statement.{statement}
@@ -68,8 +69,8 @@ returns-2 c h i x e =
     let told = next-told ACTIONS (omega arith) (actions-count h) (says .0) (n .before .number-at .ensures) (n .is-next .ensures) in
     let yes = not-false _ (f .if1 .left) in
     took (sym told ∙ yes)
-    (c .put-action .ensures (action-room h _ (n .is-next .ensures) yes) x
-    (byte-written (says .1 .0) (b .before .number-at2 .ensures) (b .byte-of .ensures)) (word-written (says .1 .1) (w .before .number-at3 .ensures) (w .word-of .ensures)))
+    (action-put (action-room h _ (n .is-next .ensures) yes) x
+    (byte-written (says .1 .0) (b .before .number-at2 .ensures) (b .byte-of .ensures)) (word-written (says .1 .1) (w .before .number-at3 .ensures) (w .word-of .ensures)) (c .put-action .ensures))
 
 pub take-action-spec : {M : Type 1} → statement M
 take-action-spec =

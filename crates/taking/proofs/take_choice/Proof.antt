@@ -4,6 +4,7 @@ use native.Mathlib.Omega.{arith}
 use borrow.Author.Needs.{needs}
 use borrow.Author.Tests.{not-true, not-false}
 use Rattle.spoken.specs.Took.{took, refused}
+use Rattle.putting.specs.More.{choice-put}
 use Rattle.taking.specs.Held.{choosable-is, choice-told, choice-room, uncut}
 use Rattle.taking.specs.Lines.{choice-says}
 use Rattle.taking.proofs.take_choice.Statement.{statement}
@@ -64,7 +65,7 @@ returns-2 c h x e =
     let q = choosable-is (a .count .now) (b .before .number-at .result) (b .bits-at .result) .holds (sym (n .choosable .ensures) ∙ yes) in
     let told = choice-told h x says (b .before .number-at .ensures) (b .bits-at .ensures x e) (n .choosable .ensures) in
     took (sym told ∙ yes)
-    (c .put-choice .ensures (choice-room h q) x (uncut says (b .before .number-at .ensures) (q .small)) (uncut refl (b .bits-at .ensures x e) (omega (arith, q .low))), refl)
+    (c .put-choice .ensures ∙ choice-put (choice-room h q) x (uncut says (b .before .number-at .ensures) (q .small)) (uncut refl (b .bits-at .ensures x e) (omega (arith, q .low))), refl)
 
 pub take-choice-spec : {M : Type 1} → statement M
 take-choice-spec =

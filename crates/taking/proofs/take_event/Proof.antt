@@ -6,6 +6,7 @@ use borrow.Author.Tests.{not-true, not-false}
 use Rattle.programs.specs.Sizes.{EVENTS}
 use Rattle.spoken.specs.Counted.{next-told}
 use Rattle.spoken.specs.Took.{took, refused}
+use Rattle.putting.specs.More.{event-put}
 use Rattle.taking.specs.Held.{events-count, events-few, event-room}
 use Rattle.taking.specs.Lines.{event-says}
 use Rattle.taking.proofs.take_event.Statement.{statement}
@@ -50,7 +51,7 @@ returns-2 c h i t e =
     let says = event-says (a .s .now) (a .t3) (a .row) i t (s .pre .1) e in
     let told = next-told EVENTS (omega arith) (events-count h) (says .0) (n .before .number-at .ensures) (n .is-next .ensures) in
     let yes = not-false _ (c .before .before .if1 .left) in
-    took (sym told ∙ yes) (c .put-event .ensures (event-room h _ (n .is-next .ensures) yes) t (says .1))
+    took (sym told ∙ yes) (c .put-event .ensures ∙ event-put (event-room h _ (n .is-next .ensures) yes) t (says .1))
 
 pub take-event-spec : {M : Type 1} → statement M
 take-event-spec =

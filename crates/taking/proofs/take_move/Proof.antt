@@ -1,8 +1,9 @@
 -- `taking::take_move` meets its contract: the three numbers are written in 8 bits each. Assumes nothing.
-use mathlib.Core.Path.{refl}
+use mathlib.Core.Path.{refl, _∙_}
 use native.Mathlib.Omega.{arith}
 use borrow.Author.Needs.{needs}
 use Rattle.spoken.specs.Spoken.{numberAt}
+use Rattle.putting.specs.More.{move-put}
 use Rattle.taking.specs.Held.{byte-written}
 use Rattle.taking.specs.Lines.{three}
 use Rattle.taking.proofs.take_move.Statement.{statement}
@@ -50,7 +51,7 @@ returns c =
     let d = b .before .before in
     let f = d .before .before in
     let a = f .before .before .before .before .args in (
-      λ h. m .put-move .ensures h _ (three
+      λ h. m .put-move .ensures ∙ move-put h _ (three
           (byte-written {j = numberAt (a .s .now) (a .t2) 0} refl (f .before .number-at .ensures) (f .byte-of .ensures))
           (byte-written {j = numberAt (a .s .now) (a .t2) 1} refl (d .before .number-at2 .ensures) (d .byte-of2 .ensures))
           (byte-written {j = numberAt (a .s .now) (a .t2) 2} refl (b .before .number-at3 .ensures) (b .byte-of3 .ensures))),

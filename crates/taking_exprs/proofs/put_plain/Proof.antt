@@ -1,5 +1,7 @@
 -- `taking_exprs::put_plain` meets its contract. Assumes nothing.
+use mathlib.Core.Path.{_∙_}
 use borrow.Author.Needs.{needs}
+use Rattle.putting.specs.More.{expr-put}
 use Rattle.taking_exprs.proofs.put_plain.Statement.{statement}
 use Rattle.taking_exprs.proofs.put_plain.Tie as tie
 
@@ -34,7 +36,7 @@ put-expr-requires : tie.Need-put-expr-requires
 put-expr-requires c κs = search needs
 
 returns : tie.Need-returns
-returns c h e q = let d = c .before .before in c .put-expr .ensures h e (rw (d .before .operand .ensures, d .operand2 .ensures) q)
+returns c h e q = let d = c .before .before in c .put-expr .ensures ∙ expr-put h e (rw (d .before .operand .ensures, d .operand2 .ensures) q)
 
 pub put-plain-spec : {M : Type 1} → statement M
 put-plain-spec =

@@ -10,6 +10,7 @@ use Rattle.programs.specs.declared.Leaf.the-variants.{Bool as boolVal}
 use Rattle.programs.specs.declared.Expr.the-variants.{Leaf as leaf}
 use Rattle.texts.specs.Forms.{isOne}
 use Rattle.spoken.specs.Took.{took, refused}
+use Rattle.putting.specs.More.{expr-put}
 use Rattle.taking_exprs.specs.Vals.{bool-zero, bool-one, bool-out}
 use Rattle.taking_exprs.proofs.take_bool.Statement.{statement}
 use Rattle.taking_exprs.proofs.take_bool.Tie as tie
@@ -21,7 +22,7 @@ returns : tie.Need-returns
 returns c h v e =
     let d = c .before .before in
     let z = bool-zero v _ e (sym (toZ-ofZ (d .before .fits .z)) ∙ ap (toZ w64) (d .if1 .taken)) in
-    took (z .0) (c .put-expr .ensures h (leaf (boolVal (isOne v))) (ap (λ (t : Bool). 2 ∷ cond t 1 0 ∷ 0 ∷ []) (z .1)))
+    took (z .0) (c .put-expr .ensures ∙ expr-put h (leaf (boolVal (isOne v))) (ap (λ (t : Bool). 2 ∷ cond t 1 0 ∷ 0 ∷ []) (z .1)))
 
 put-expr-requires-2 : tie.Need-put-expr-requires-2
 put-expr-requires-2 c κs = search needs
@@ -30,7 +31,7 @@ returns-2 : tie.Need-returns-2
 returns-2 c h v e =
     let d = c .before .before in
     let z = bool-one v _ e (sym (toZ-ofZ (d .before .before .fits .z)) ∙ ap (toZ w64) (d .if2 .taken)) in
-    took (z .0) (c .put-expr2 .ensures h (leaf (boolVal (isOne v))) (ap (λ (t : Bool). 2 ∷ cond t 1 0 ∷ 0 ∷ []) (z .1)))
+    took (z .0) (c .put-expr2 .ensures ∙ expr-put h (leaf (boolVal (isOne v))) (ap (λ (t : Bool). 2 ∷ cond t 1 0 ∷ 0 ∷ []) (z .1)))
 
 returns-3 : tie.Need-returns-3
 returns-3 c h v e = refused (bool-out v _ e (λ q. c .before .if1 .left (ap (ofZ w64) q)) (λ q. c .if2 .left (ap (ofZ w64) q))) refl

@@ -8,6 +8,7 @@ use Rattle.programs.specs.declared.Leaf.the-variants.{Int as intVal}
 use Rattle.programs.specs.declared.Expr.the-variants.{Leaf as leaf}
 use Rattle.codes.specs.Codes.{codeOf}
 use Rattle.spoken.specs.Took.{took, refused}
+use Rattle.putting.specs.More.{expr-put}
 use Rattle.taking_exprs.specs.Vals.{int-out, int-in, int-word}
 use Rattle.taking_exprs.proofs.take_int.Statement.{statement}
 use Rattle.taking_exprs.proofs.take_int.Tie as tie
@@ -36,7 +37,7 @@ returns-2 c h v e =
     let out = c .before .before .if1 .left in
     let z = toZ-ofZ (d .before .before .fits .z) ∙ e in
     took (int-in v _ z (λ q. out (code ∙ q)))
-    (c .put-expr .ensures h (leaf (intVal v)) (ap (λ (x : ℕ). 1 ∷ x ∷ 0 ∷ []) (sym (ap (λ (x : ℕ). x % 4294967296) code ∙ int-word v _ z (λ q. out (code ∙ q))))))
+    (c .put-expr .ensures ∙ expr-put h (leaf (intVal v)) (ap (λ (x : ℕ). 1 ∷ x ∷ 0 ∷ []) (sym (ap (λ (x : ℕ). x % 4294967296) code ∙ int-word v _ z (λ q. out (code ∙ q))))))
 
 pub take-int-spec : {M : Type 1} → statement M
 take-int-spec =

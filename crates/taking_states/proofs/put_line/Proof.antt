@@ -5,6 +5,7 @@ use borrow.Author.Needs.{needs}
 use Rattle.lists.specs.Lists.{all, there}
 use Rattle.programs.specs.Sizes.{EVENTS}
 use Rattle.listings.specs.Listings.{listOf}
+use Rattle.putting.specs.More.{state-put}
 use Rattle.taking_states.specs.Held.{before-few, row-room, flag-room, kind-told}
 use Rattle.taking_states.proofs.put_line.Statement.{statement}
 use Rattle.taking_states.proofs.put_line.Tie as tie
@@ -61,7 +62,7 @@ returns c h =
     let d = f .before .before in
     let can = d .deferrable .ensures ∙ ap (λ l. all (there EVENTS) (listOf l)) (d .before .field .ensures) in
     record {
-      states = c .put-state .ensures (row-room h) _ (kind-told h can (k .home .ensures)) (sym (y .before .operand .ensures)) (sym (y .operand2 .ensures));
+      states = state-put (row-room h) _ (kind-told h can (k .home .ensures)) (sym (y .before .operand .ensures)) (sym (y .operand2 .ensures)) (c .put-state .ensures);
       defers = f .put-flags .ensures (flag-room h can) _ refl;
     }
 

@@ -1,6 +1,8 @@
 -- `taking_stmts::put_new` meets its contract: the pairs are put behind those that are there, then the row. Assumes nothing.
+use mathlib.Core.Path.{_∙_}
 use native.Mathlib.Omega.{arith}
 use borrow.Author.Needs.{needs}
+use Rattle.putting.specs.More.{stmt-put}
 use Rattle.taking_stmts.specs.Held.{row-room, pairs-room, pairs-few, new-row, new-put}
 use Rattle.taking_stmts.proofs.put_new.Statement.{statement}
 use Rattle.taking_stmts.proofs.put_new.Tie as tie
@@ -50,7 +52,7 @@ returns c h =
     let p = y .before .before in
     let e = p .before .before .field .ensures in
     new-put h e (p .put-pairs .ensures)
-    (c .put-stmt .ensures (row-room h) _ (new-row h e (p .put-pairs .ensures) (y .before .operand .ensures) (y .operand2 .ensures)))
+    (c .put-stmt .ensures ∙ stmt-put (row-room h) _ (new-row h e (p .put-pairs .ensures) (y .before .operand .ensures) (y .operand2 .ensures)))
 
 pub put-new-spec : {M : Type 1} → statement M
 put-new-spec =

@@ -1,5 +1,7 @@
 -- `taking_stmts::put_plain` meets its contract. Assumes nothing.
+use mathlib.Core.Path.{_∙_}
 use borrow.Author.Needs.{needs}
+use Rattle.putting.specs.More.{stmt-put}
 use Rattle.taking_stmts.proofs.put_plain.Statement.{statement}
 use Rattle.taking_stmts.proofs.put_plain.Tie as tie
 
@@ -42,7 +44,7 @@ put-stmt-requires c κs = search needs
 returns : tie.Need-returns
 returns c h t q =
     let d = c .before .before in
-    c .put-stmt .ensures h t (rw (d .before .before .operand .ensures, d .before .operand2 .ensures, d .operand3 .ensures) (q _))
+    c .put-stmt .ensures ∙ stmt-put h t (rw (d .before .before .operand .ensures, d .before .operand2 .ensures, d .operand3 .ensures) (q _))
 
 pub put-plain-spec : {M : Type 1} → statement M
 put-plain-spec =
