@@ -2,9 +2,10 @@
 use Prim.Native.Nat.{ℕ, suc, _+_, _≤_, _<_}
 use mathlib.Core.Path.{_≡_, refl, ap, sym, _∙_, subst}
 use mathlib.Core.Bool.{cond}
-use mathlib.Core.List.{List, [], _∷_, _++_, append-nil, append-assoc, map, map-append}
+use mathlib.Core.List.{List, [], _∷_, _++_, append-nil, map, map-append}
 use native.Mathlib.Numerals.{add-one}
 use native.Mathlib.Omega.{arith}
+use borrow.Author.Tests.{eq-eqb, ne-eqb}
 use lib.Dec.{eqb}
 use lib.ListN.{length, take, drop, getD, set, length-append, length-map, List·getD-map, drop-of-length-le}
 use lib.Seq.{drop-cons, append-snoc, getD-take, length-take-le}
@@ -24,7 +25,6 @@ use Rattle.configs.specs.Encode.{written}
 use Rattle.configs.specs.Flat.{Flat, Sized, held}
 use Rattle.choices.specs.Choices.{choiceOf, choicesOf, bits-small}
 use Rattle.labels.specs.Labels.{ruleNumber}
-use Rattle.engine.specs.declared.Outcome.{Outcome}
 use Rattle.engine.specs.declared.Outcome.the-variants.{Took, Refused}
 use Rattle.engine.specs.Engine.{Performed}
 use Rattle.heads.specs.Asked.{Tabled, StepAsked}
@@ -48,8 +48,16 @@ pub record RunAsked (exprs stmts inits types owners vartypes doers bodies kinds 
 abbrev pub endedWith : Answer → ℕ → Ending
 endedWith a n = record { answer = a; place = cond (eqb (number a) 0) 0 (suc n); steps = n }
 
--- WHAT A RUN LEAVES: with e the definitions' run of the first n of the numbers l, the lists hold its configuration, the answer, the place and the steps are its
--- own, and the numbers of its rules are written from the front of the row
+-- so with the answer 0,
+pub ended-done : (a : Answer) (n : ℕ) → number a ≡ 0 → record { answer = a; place = 0; steps = n } ≡ endedWith a n
+ended-done a n e = rw (eq-eqb (number a) 0 e)
+
+-- and with any other the place of the choice that was refused
+pub ended-refused : (a : Answer) (n place : ℕ) → (number a ≡ 0 → ⊥) → place ≡ suc n → record { answer = a; place = place; steps = n } ≡ endedWith a n
+ended-refused a n place e q = rw (q, ne-eqb (number a) 0 e)
+
+-- WHAT A RUN LEAVES, by the definitions' run of the first n of the numbers l: the lists hold its last configuration; answer, place and steps are its own; and the
+-- numbers of its rules are written from the front of the row
 pub record RunLeft (p : Program) (c : Config) (l : List ℕ) (n : ℕ) (row : List ℕ) (r : Ending) (g : Flat) (row′ : List ℕ) : Type 0 where
   pub sized : Sized g
   pub holds : held g ≡ written (run (definition.step p) c (choicesOf (take n l)) .config)
@@ -134,6 +142,7 @@ module _ {exprs stmts inits types owners vartypes doers bodies kinds entries exi
       abbrev x : Choice
       x = choiceOf (getD l k 0)
 
+      -- it stands first among those that are left
       next-choice : drop k xs ≡ x ∷ drop (k + 1) xs
       next-choice = drop-cons xs k (choiceOf 0) (omega (arith, many-xs))
           ∙ ap (λ (y : Choice). y ∷ drop (suc k) xs) (List·getD-map choiceOf (take n l) k 0 ∙ ap choiceOf (getD-take n l k 0 h))

@@ -1,6 +1,6 @@
 -- A run over any step, turn by turn: what the first choice of a list makes of the rest; and a row of numbers that is written from its front, one more.
 use Prim.Native.Nat.{ℕ, suc, _+_, _<_}
-use mathlib.Core.Path.{_≡_, refl, ap, sym, _∙_}
+use mathlib.Core.Path.{_≡_, ap, sym, _∙_}
 use mathlib.Core.List.{List, [], _∷_, _++_}
 use native.Mathlib.Omega.{arith}
 use lib.ListN.{length, drop, set, getD, length-append}

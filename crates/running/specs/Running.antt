@@ -1,18 +1,16 @@
 -- What is handed in, laid into the flat arrays, tested and run: that what comes out is the run of what is handed in.
-use borrow.Author.Tests.{not-true}
 use Prim.Native.Nat.{ℕ, _≤_, _<_}
 use mathlib.Core.Path.{_≡_, refl, ap, sym, _∙_, subst}
 use mathlib.Core.Bool.{Bool, true, false, not, cond}
 use mathlib.Core.List.{List, [], map}
-use lib.Dec.{leb}
-use lib.ListN.{length, take, length-map}
+use borrow.Author.Tests.{not-true}
+use lib.ListN.{length, length-map}
 use lib.Seq.{take-length}
 use Rattle.lists.specs.Tells.{Tells, refuted, denied, agree}
 use Rattle.answers.specs.declared.Answer.{Answer}
 use Rattle.answers.specs.declared.Answer.the-variants.{OutOfRange, NotAccepted}
 use Rattle.programs.specs.Sizes.{CHOICES}
-use Rattle.runs.specs.Run.{Ended, run, ruled}
-use Rattle.rules.specs.declared.Rule.{Rule}
+use Rattle.runs.specs.Run.{run, ruled}
 use Rattle.rules.specs.Step.{step}
 use Rattle.soundness.specs.Sound.{sound, sound-is}
 use Rattle.public.specs.Public as public
@@ -22,7 +20,6 @@ use Rattle.tables.specs.declared.Program.{Program as Tables}
 use Rattle.tables.specs.Decode.{programOf}
 use Rattle.configs.specs.declared.Config.{Config as Held}
 use Rattle.configs.specs.Decode.{configOf}
-use Rattle.configs.specs.Encode.{written}
 use Rattle.configs.specs.Flat.{Flat, Sized, held, flatConfig}
 use Rattle.choices.specs.Choices.{choiceOf, choicesOf}
 use Rattle.labels.specs.Labels.{ruleNumber}
@@ -66,11 +63,11 @@ module _ (q : Tables) (c : Held) (l row : List ℕ) where
       let e = agree _ _ (fit-is q c) (refuted n) in
       record { ran = rw e refl; rules = rw e refl }
 
-  -- the program is not sound,
+  -- so where the program is not sound
   pub run-unsound : sound (programOf q) ≡ false → RanAs q c l row (stoppedAt c NotAccepted) row
   run-unsound e = run-unfit (λ h. denied (sound-is (programOf q)) e (h .0))
 
-  -- OTHERWISE
+  -- NOTHING OF 20 HOLDS
   module _ (h : Fit q c) where
     -- it is the definitions' run of what is handed in,
     run-public : runOf q c l ≡ ranAs (public.publicRun (programOf q) (configOf (programOf q) c) (choicesOf l))
@@ -107,12 +104,13 @@ module _ (q : Tables) (c : Held) (l row : List ℕ) where
         }
 
 module _ (q : Tables) (f : Flat) (l row : List ℕ) (z : Laid q f) {b : Bool} (t : Tells b (IsOne (programOf q) f)) where
-  -- THE ARRAYS HOLD no configuration
+  -- THE ARRAYS HOLD NONE
   pub left-unaccepted : {r : Ending} → not b ≡ true → r ≡ stoppedWith NotAccepted → Left q f l row r f row
   left-unaccepted n e = rw e (record { sized = z .sized; done = run-unfit q (held f) l row (λ h. denied t (not-true b n) (record { accepted = h .1 .0; zeroed = h .1 .1 })) })
 
   -- THEY HOLD ONE
   module _ (n : not b ≡ false) where
+    -- nothing of 20 holds
     abbrev fits : Fit q (held f)
     fits = let one = passed b t n in (z .sound, (one .accepted, one .zeroed))
 

@@ -1,7 +1,6 @@
 -- `looping::run_on` meets its contract: after k turns the arrays hold the configuration after k steps of the run, and the rules of these steps are written.
 -- Assumes nothing.
 use Prim.Native.Nat.{_-_, _≤_}
-use mathlib.Core.Path.{refl}
 use native.Mathlib.Omega.{arith}
 use borrow.Author.Needs.{needs}
 use Rattle.configs.specs.Flat.{flat}
