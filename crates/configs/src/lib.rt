@@ -4,6 +4,7 @@ use tables::Kind;
 use tables::Program;
 use values::Live;
 
+#[repr(C)]
 pub struct Room {
     // 0: the room is free
     pub this: Live,
@@ -24,6 +25,7 @@ pub struct Room {
     pub pairs: [u64; Program::QUEUE],
 }
 
+#[repr(C)]
 pub struct Config {
     // the next live number
     pub next: u32,

@@ -12,9 +12,11 @@ ghost use Rattle.tables.specs.Decode.{MOVES, count, tyOf, eventsOf, vari
 use values::Ty;
 
 // A machine kind's number: the wrapping keeps it apart from a live machine's.
+#[repr(C)]
 pub struct Kind(pub u8);
 
 // What each number means stands in specs/Decode.antt. Where several arrays are one table, the count is in place 0 of the one that names the kinds.
+#[repr(C)]
 pub struct Program {
     pub event_types: [u8; Program::EVENTS + 1],
     // how many machine kinds there are

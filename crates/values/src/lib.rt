@@ -5,6 +5,7 @@ ghost use Rattle.values.specs.Values.{checked, apply1, apply2, suits};
 ghost use Rattle.values.specs.Words.{intOf};
 
 // A live machine's number: the wrapping keeps it apart from a machine kind's.
+#[repr(C)]
 pub struct Live(pub u32);
 
 pub enum Ty {

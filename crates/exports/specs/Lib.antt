@@ -1,0 +1,2 @@
+-- what the exported functions answer
+pub mod Exported
