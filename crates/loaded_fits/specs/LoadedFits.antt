@@ -1,6 +1,6 @@
 -- WHAT THE LOADER HANDS OUT: the program that the text says, which is sound, and whose start configuration is accepted. So it is never refused with 20.
 use Prim.Native.Nat.{ℕ, suc, _≤_}
-use mathlib.Core.Path.{_≡_, refl, ap, _∙_}
+use mathlib.Core.Path.{_≡_, refl, ap, _∙_, subst}
 use mathlib.Core.Bool.{Bool, true, false, cond}
 use mathlib.Core.List.{List}
 use native.Mathlib.Omega.{arith}
