@@ -1,9 +1,9 @@
--- WHAT THE CALLS LEAVE of the loader and of the start, in the code's values.
+-- WHAT THE CALLS LEAVE of the loader and of the start, in the code's values; and that what is written from the front of a buffer on lies in it.
 use Prim.Native.Nat.{ℕ, _^_, _≤_, _<_}
 use mathlib.Core.Path.{_≡_, ap, sym, _∙_}
 use mathlib.Core.List.{List, map}
 use native.Mathlib.Omega.{arith}
-use lib.ListN.{length, take, length-map}
+use lib.ListN.{length, take, drop, length-map, length-append}
 use Rattle.rows.specs.Pad.{pad-length}
 use Rattle.answers.specs.Number.{number}
 use Rattle.programs.specs.Sizes.{CHOICES}
@@ -14,6 +14,7 @@ use Rattle.outputs.specs.Lengths.{refusal-length}
 use Rattle.configs.specs.Encode.{written}
 use Rattle.tabled.specs.declared.Loaded.{Loaded}
 use Rattle.tabled.specs.Tabled.{choiceTable, loadOf}
+use Rattle.handed_runs.specs.HandedRuns.{fronted}
 use Rattle.starting.specs.declared.Started.{Started}
 use Rattle.starting.specs.Started.{startOf}
 use Rattle.starting.specs.Loaded.{loaded-starts}
@@ -50,3 +51,7 @@ module _ (t : List ℕ) {x : Loaded} (e : x ≡ loadOf t) where
     -- IT STARTS with its start configuration
     pub starts : {s : Started} → s ≡ startOf (x .program) → s .config ≡ written (startConfig (loads .program))
     starts b = ap (λ (y : Started). y .config) (b ∙ ap (λ (y : Loaded). startOf (y .program)) e ∙ loaded-starts t (loads .program) (loads .choices) (loads .is))
+
+-- WHAT IS WRITTEN from the front of a buffer on lies in it
+pub front-within : (f : List ℕ → List ℕ) (t old : List ℕ) {r : ℕ} {new : List ℕ} → r ≡ length (f t) → new ≡ fronted (f t) old → r ≤ length new
+front-within f t old e g = rw (e, g) (omega (arith, length-append (f t) (drop (length (f t)) old)))

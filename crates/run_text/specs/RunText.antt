@@ -1,12 +1,11 @@
 -- THE RUN PROGRAM, of what the loader hands out: a refusal, or the step lines and the end line of the run.
 use Prim.Native.Nat.{ℕ, _+_, _-_, _*_, _≤_}
 use mathlib.Core.Path.{_≡_, ap, _∙_}
-use mathlib.Core.List.{List, _++_, map}
+use mathlib.Core.List.{List, _++_, map, map-append}
 use native.Mathlib.Omega.{arith}
 use lib.ListN.{length, take, drop, replicate, length-map, length-append}
 use lib.Seq.{take-at}
 use Rattle.lists.specs.Facts.{All-map}
-use Rattle.lists.specs.Ends.{map-append}
 use Rattle.rows.specs.Pad.{pad}
 use Rattle.answers.specs.Number.{number}
 use Rattle.programs.specs.Sizes.{CHOICES}
