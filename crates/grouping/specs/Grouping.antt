@@ -46,7 +46,7 @@ module _ (l : List ℕ) (n : ℕ) (some-are : suc n ≡ length l) where
       go (y ∷ l) e = let is : n ≡ length l = omega (arith, e) in rw is (ap (map choiceOf) (take-init y l) ∙ map-init choiceOf y l)
 
   before-many : length (butLast (choicesOf l)) ≡ n
-  before-many = ap length (sym before-are) ∙ length-map (take n l) choiceOf ∙ length-take-le l n (omega (arith, some-are))
+  before-many = ap length (sym before-are) ∙ length-map (take n l) choiceOf ∙ length-take-le n l (omega (arith, some-are))
 
 module _ (q : Tables) (c : Held) (l : List ℕ) (room : ℕ) where
   -- 20

@@ -281,6 +281,15 @@ fn two_working() -> Config {
     c
 }
 
+// Writes a choice's machine and bits.
+fn write_choice(x: u32) {
+    io::write_all(1, b" ");
+    let machine = choices::machine_of(x);
+    write_number(machine.0 as u64);
+    io::write_all(1, b":");
+    write_number(choices::bits_of(x) as u64);
+}
+
 // A row whose call gives a regrouped list.
 fn regroup_row(k: u64, program: Program, c: Config) {
     write_row(k);
@@ -289,13 +298,13 @@ fn regroup_row(k: u64, program: Program, c: Config) {
     let answer = grouping::regroup(program, c, &list, &mut out);
     io::write_all(1, b"answer ");
     write_number(number(answer) as u64);
-    for i in 0..7 {
-        io::write_all(1, b" ");
-        let machine = choices::machine_of(out[i]);
-        write_number(machine.0 as u64);
-        io::write_all(1, b":");
-        write_number(choices::bits_of(out[i]) as u64);
-    }
+    write_choice(out[0]);
+    write_choice(out[1]);
+    write_choice(out[2]);
+    write_choice(out[3]);
+    write_choice(out[4]);
+    write_choice(out[5]);
+    write_choice(out[6]);
     io::write_all(1, b"\n");
 }
 
