@@ -9,7 +9,7 @@ use Rattle.rules.specs.declared.Rule.the-variants.{ASSIGN, NEW, DELETE, ASSERT,
 use Rattle.texts.specs.Bytes.{bytes}
 
 -- the digits of n, where d is at least as many as they are: '0' is 48
-abbrev digits : ℕ → ℕ → List ℕ
+abbrev pub digits : ℕ → ℕ → List ℕ
 digits zero n = []
 digits (suc d) n =
     let front = digits d (n / 10) in

@@ -1,0 +1,2 @@
+-- the machines left
+pub mod Living
