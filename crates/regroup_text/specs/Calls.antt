@@ -9,7 +9,7 @@ use lib.Seq.{take-at}
 use Rattle.lists.specs.Lists.{flat}
 use Rattle.lists.specs.Facts.{All-map}
 use Rattle.answers.specs.declared.Answer.{Answer}
-use Rattle.answers.specs.declared.Answer.the-variants.{Done, TookNoStep}
+use Rattle.answers.specs.declared.Answer.the-variants.{Done}
 use Rattle.answers.specs.Number.{number}
 use Rattle.programs.specs.Sizes.{CHOICES}
 use Rattle.machines.specs.Config.{Choice}

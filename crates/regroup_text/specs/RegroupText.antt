@@ -1,5 +1,5 @@
 -- THE REGROUP PROGRAM, of what the loader hands out: a refusal, 22 alone, or the choice lines of the regrouped list and 0.
-use Prim.Native.Nat.{ℕ, _+_, _*_, _≤_, _<_}
+use Prim.Native.Nat.{ℕ, _+_, _≤_, _<_}
 use mathlib.Core.Path.{_≡_, sym, _∙_, subst}
 use mathlib.Core.Option.{Option, none, some, Option·some-injective}
 use mathlib.Core.List.{List, _++_, map}

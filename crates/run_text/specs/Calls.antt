@@ -1,31 +1,25 @@
 -- What the calls of the run program leave, each of what the ones before it left: the loaded text, its start, its run, its step lines and its end line.
-use Prim.Native.Nat.{ℕ, _+_, _^_, _≤_, _<_}
-use mathlib.Core.Path.{_≡_, ap, sym, _∙_, subst}
+use Prim.Native.Nat.{ℕ, _+_}
+use mathlib.Core.Path.{_≡_, ap, _∙_, subst}
 use mathlib.Core.List.{List, _++_, map}
 use native.Mathlib.Omega.{arith}
-use lib.ListN.{length, take, drop, replicate, length-replicate, length-map, length-append, length-drop}
-use Rattle.rows.specs.Pad.{pad-length}
+use lib.ListN.{length, take, drop, replicate, length-replicate, length-append, length-drop}
 use Rattle.answers.specs.Number.{number}
 use Rattle.programs.specs.Sizes.{CHOICES}
 use Rattle.programs.specs.Program.{Program}
 use Rattle.machines.specs.Rooms.{live}
-use Rattle.choices.specs.Choices.{choiceWord}
 use Rattle.labels.specs.Labels.{ruleNumber}
-use Rattle.rules.specs.Step.{startConfig}
 use Rattle.public.specs.Public.{ran}
 use Rattle.outputs.specs.Programs.{refusal, stepLines, endLine, runProgram}
-use Rattle.outputs.specs.Lengths.{refusal-length}
 use Rattle.configs.specs.Decode.{configOf}
-use Rattle.configs.specs.Encode.{written}
 use Rattle.tabled.specs.declared.Loaded.{Loaded}
-use Rattle.tabled.specs.Tabled.{choiceTable, loadOf}
+use Rattle.tabled.specs.Tabled.{loadOf}
 use Rattle.handed_runs.specs.declared.Ran.{Ran}
 use Rattle.handed_runs.specs.HandedRuns.{ranAs, runOf, rulesOf, fronted}
 use Rattle.handed_out.specs.HandedOut.{Loads}
 use Rattle.handed_out.specs.Called.{loads, words, table-length, starts}
 use Rattle.starting.specs.declared.Started.{Started}
 use Rattle.starting.specs.Started.{startOf}
-use Rattle.starting.specs.Loaded.{loaded-starts}
 use Rattle.writing.specs.Wrote.{Room, Wrote, room-first, room-second, wrote-both, wrote-front}
 use Rattle.output_lines.specs.OutputLines.{ending}
 use Rattle.telling.specs.Rows.{OUTPUT, stepRows}

@@ -1,5 +1,5 @@
 -- THE RUN PROGRAM, of what the loader hands out: a refusal, or the step lines and the end line of the run.
-use Prim.Native.Nat.{ℕ, _+_, _-_, _*_, _≤_}
+use Prim.Native.Nat.{ℕ, _+_, _-_, _≤_}
 use mathlib.Core.Path.{_≡_, ap, _∙_}
 use mathlib.Core.List.{List, _++_, map, map-append}
 use native.Mathlib.Omega.{arith}
@@ -9,7 +9,6 @@ use Rattle.lists.specs.Facts.{All-map}
 use Rattle.rows.specs.Pad.{pad}
 use Rattle.answers.specs.Number.{number}
 use Rattle.programs.specs.Sizes.{CHOICES}
-use Rattle.soundness.specs.Sound.{Sound}
 use Rattle.machines.specs.Config.{Config}
 use Rattle.machines.specs.Rooms.{live}
 use Rattle.choices.specs.Choices.{choiceWord, choiceOf}
@@ -20,7 +19,6 @@ use Rattle.rules.specs.declared.Rule.{Rule}
 use Rattle.rules.specs.Step.{step, startConfig}
 use Rattle.acceptance.specs.Accepted.{Accepted}
 use Rattle.kept.specs.Theorem.{start-accepted, run-keeps}
-use Rattle.loaded.specs.Loaded.{loaded-sound}
 use Rattle.public.specs.Public.{ran}
 use Rattle.outputs.specs.Programs.{refusal, stepLines, endLine, runProgram}
 use Rattle.outputs.specs.Lengths.{step-lines-length, end-line-length, live-most}
@@ -30,9 +28,7 @@ use Rattle.configs.specs.Decode.{configOf}
 use Rattle.configs.specs.Encode.{written}
 use Rattle.configs.specs.RoundTrip.{reads-written}
 use Rattle.tabled.specs.Tabled.{choiceTable, loadOf}
-use Rattle.handed.specs.Handed.{fit-is}
 use Rattle.handed_runs.specs.HandedRuns.{ranAs, runOf, rulesOf, fronted}
-use Rattle.loaded_fits.specs.LoadedFits.{loaded-reads, loaded-fits}
 use Rattle.handed_out.specs.HandedOut.{Loads, refused-out, few, ranged, table-is, choices-back, sound, start-back, program-back, fitting}
 use Rattle.telling.specs.Rows.{OUTPUT, stepRows, rows-are-lines}
 
