@@ -4,18 +4,17 @@
     python3 second/answers.py [--proved]
 
 A section `## 13: ...` has a block marked `text`, and behind it what the programs write for it in blocks marked `run`
-or `regroup`, quoted as second/pages.py says. The texts are given to the second program, and with --proved to
-`./namakviz run` and `./namakviz regroup` too. A text is smallest in the sense that without any one of its lines the
+or `regroup`, quoted as second/pages.py says. The texts are given to the second program, and with --proved to the
+proved programs of target/bin too. A text is smallest in the sense that without any one of its lines the
 answer is another; only 2 is not asked for that, since the empty text is 2. The text of answer 1 is made here.
 """
 
 import re
-import subprocess
 import sys
-from typing import Callable, Dict, Iterator, List, Tuple
+from typing import Dict, Iterator, List, Tuple
 
-import namakviz
 from pages import ROOT, agrees, quoted_lines, unfolded
+from programs import PROVED, SECOND, Program
 
 PAGE = ROOT / "docs" / "ANSWERS.md"
 SECTION = re.compile(r"^## (\d+): .*?(?=^## |\Z)", re.DOTALL | re.MULTILINE)
@@ -24,17 +23,6 @@ BLOCK = re.compile(r"^```(text|run|regroup)\n(.*?)^```$", re.DOTALL | re.MULTILI
 ANSWERS = range(23)
 WITHOUT_A_TEXT = (20, 21)       # given only to callers of the library
 MADE_HERE = {1: ("yes | head -c 60001 | ./namakviz run", (b"y\n" * 30_001)[:60_001])}
-
-Program = Callable[[bytes], str]
-SECOND: Dict[str, Program] = {"run": namakviz.run_text, "regroup": namakviz.regroup_text}
-
-
-def proved(name: str) -> Program:
-    """The proved program with this name."""
-    def write(text: bytes) -> str:
-        return subprocess.run([str(ROOT / "namakviz"), name], input=text, stdout=subprocess.PIPE,
-                              check=True).stdout.decode("ascii")
-    return write
 
 
 def answer_of(output: str) -> int:
@@ -93,7 +81,7 @@ def main(arguments: List[str]) -> int:
     if arguments not in ([], ["--proved"]):
         print("usage: answers.py [--proved]", file=sys.stderr)
         return 2
-    programs = [SECOND] + ([{name: proved(name) for name in SECOND}] if arguments else [])
+    programs = [SECOND] + ([PROVED] if arguments else [])
     sections = [(int(match[1]), match[0]) for match in SECTION.finditer(PAGE.read_text("utf-8"))]
     faults = [] if [answer for answer, _ in sections] == list(ANSWERS) else ["the answers are not 0 to 22 in order"]
     for answer, section in sections:

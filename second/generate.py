@@ -1028,15 +1028,14 @@ def write_texts(count: int, seed: int, folder: Path) -> None:
         (folder / f"{text.name}.txt").write_bytes(text.content)
 
 
-def tally(count: int, seed: int) -> bool:
-    """Prints how often each rule and each answer was reached; whether all of them were."""
-    reached: Counter = Counter()
-    for index in range(count):
-        content = make_text(seed, index).content
-        written = namakviz.run_text(content)
-        reached.update(re.findall(r"rule=(\w+)", written))
-        reached.update("run " + answer for answer in re.findall(r"end=(\d+)", written))
-        reached.update("regroup " + answer for answer in re.findall(r"end=(\d+)", namakviz.regroup_text(content)))
+def count_reached(reached: Counter, program: str, written: str) -> None:
+    """Counts what an output of the run or the regroup program reached: rules and answers."""
+    reached.update(re.findall(r"rule=(\w+)", written))
+    reached.update(f"{program} {answer}" for answer in re.findall(r"end=(\d+)", written))
+
+
+def print_reached(reached: Counter) -> List[str]:
+    """Prints how often each rule and each answer was reached; which of them never were."""
     for rule in RULES:
         print(f"rule {rule:8} {reached[rule]:8}")
     for answer in ANSWERS:
@@ -1045,7 +1044,17 @@ def tally(count: int, seed: int) -> bool:
     missing += [f"answer {answer}" for answer in ANSWERS
                 if reached[f"run {answer}"] + reached[f"regroup {answer}"] == 0]
     print("never reached: " + (", ".join(missing) or "nothing"))
-    return not missing
+    return missing
+
+
+def tally(count: int, seed: int) -> bool:
+    """Prints how often each rule and each answer was reached by generated texts; whether all of them were."""
+    reached: Counter = Counter()
+    for index in range(count):
+        content = make_text(seed, index).content
+        count_reached(reached, "run", namakviz.run_text(content))
+        count_reached(reached, "regroup", namakviz.regroup_text(content))
+    return not print_reached(reached)
 
 
 def main() -> int:

@@ -30,7 +30,7 @@ use Rattle.judging.specs.Judging.{lent}
 use Rattle.gathering.specs.Gathered.{eventLines}
 use Rattle.taking_lines.specs.Gathered.{startWord}
 use Rattle.taking_lines.specs.Asked.{Gathered}
-use Rattle.reading.specs.Order.{Weighs}
+use Rattle.one_line.specs.Order.{Weighs}
 use Rattle.reading.specs.Whole.{RefusedRead, WholeRead}
 use Rattle.loading.specs.Holding.{whole-is, lent-tabled}
 

@@ -18,7 +18,7 @@ use Rattle.texts.specs.Forms.{Said, said}
 use Rattle.texts.specs.Reading.{Tables, tables, nothing, put, kind, ordered, ranged, Result, loaded, refused, whole, reading}
 use Rattle.numerals.specs.Splits.{bytesOf, split-total}
 use Rattle.lengths.specs.Lengths.{said-bytes}
-use Rattle.reading.specs.Order.{Weighs, weighs-none, weighs-more}
+use Rattle.one_line.specs.Order.{Weighs, weighs-none, weighs-more}
 
 -- n bytes are enough for what is loaded
 abbrev Enough : ℕ → Result → Type 0

@@ -11,13 +11,13 @@ use Rattle.texts.specs.Bytes.{LF, split}
 use Rattle.texts.specs.Reading.{Tables, tables, nothing, Result, refused, whole, reading, startsOf}
 use Rattle.taking_lines.specs.Gathered.{startWord}
 use Rattle.taking_lines.specs.Asked.{Gathered}
-use Rattle.reading.specs.declared.Turn.{Turn}
-use Rattle.reading.specs.declared.Turn.the-variants.{On}
+use Rattle.one_line.specs.declared.Turn.{Turn}
+use Rattle.one_line.specs.declared.Turn.the-variants.{On}
 use Rattle.reading.specs.declared.Read.{Read}
 use Rattle.reading.specs.declared.Read.the-variants.{Whole, Refused}
-use Rattle.reading.specs.Turns.{readTo, read-is, heldLines, readFrom, read-first, read-end}
-use Rattle.reading.specs.Order.{Later, later-none, Weighs, weighs-none}
-use Rattle.reading.specs.Loop.{LineTurn, Turned, RefusedAt, TurnedAs}
+use Rattle.one_line.specs.Turns.{readTo, read-is, heldLines, readFrom, read-first, read-end}
+use Rattle.one_line.specs.Order.{Later, later-none, Weighs, weighs-none}
+use Rattle.one_line.specs.Loop.{LineTurn, Turned, RefusedAt, TurnedAs}
 
 -- BEFORE THE FIRST LINE: a text that is not too long, and arrays that hold no line
 pub record Begun (s : List ℕ) (types owners holds rooms exprs : List ℕ) (kinds variables absent : ℕ) (stmts inits actors bodies homes entries exits flags moves choices : List ℕ) (pairs steps calls acts start count : ℕ) : Type 0 where

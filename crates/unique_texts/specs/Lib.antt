@@ -4,5 +4,7 @@ pub mod Found
 pub mod Taken
 -- all arrays, by the lines that they hold
 pub mod Lent
+-- one line
+pub mod Line
 -- the lines from the first to the last
 pub mod Lines

@@ -9,7 +9,7 @@ use Rattle.programs.specs.Program.{Program}
 use Rattle.texts.specs.Reading.{Tables, tables, refused, programOf, whole, startsOf}
 use Rattle.tabled.specs.Tabled.{byteOf}
 use Rattle.taking_lines.specs.Gathered.{startWord}
-use Rattle.reading.specs.Turns.{heldLines}
+use Rattle.one_line.specs.Turns.{heldLines}
 use Rattle.reading.specs.Whole.{ReadAs}
 use Rattle.reading.specs.declared.Read.{Read}
 use Rattle.reading.specs.declared.Read.the-variants.{Whole, Refused}

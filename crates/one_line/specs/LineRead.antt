@@ -1,6 +1,6 @@
 -- ONE LINE READ: what taking it asks, and what comes of it where it is in range and where it is not.
 use Prim.Native.Nat.{ℕ, _+_, _-_, _*_, _≤_, _<_}
-use mathlib.Core.Path.{_≡_, ap, sym, _∙_, subst}
+use mathlib.Core.Path.{_≡_, refl, ap, sym, _∙_, subst}
 use mathlib.Core.Logic.{dite}
 use mathlib.Core.Option.{some}
 use mathlib.Core.Bool.{Bool, true, false, cond}
@@ -24,9 +24,9 @@ use Rattle.lengths.specs.Counted.{movesIn, pairsIn}
 use Rattle.lengths.specs.Lengths.{said-bytes}
 use Rattle.taking_lines.specs.Rows.{step-row, call-row, act-row, kind-machine, kind-step, kind-call, kind-start}
 use Rattle.taking_lines.specs.Asked.{Gathered, LineAsked}
-use Rattle.reading.specs.Turns.{read-unranged, read-on}
-use Rattle.reading.specs.Order.{later-more, weighs-more}
-use Rattle.reading.specs.Loop.{LineTurn, Turned, RefusedAt, order-low, order-start}
+use Rattle.one_line.specs.Turns.{read-unranged, read-on}
+use Rattle.one_line.specs.Order.{later-more, weighs-more}
+use Rattle.one_line.specs.Loop.{LineTurn, Turned, RefusedAt, order-low, order-start}
 
 -- the test of the order, by the kind that a form's number has
 pub ordered-told : (s : List ℕ) (last row : ℕ) (places : List ℕ) {k : ℕ} {t : Bool} → ((s places : List ℕ) → k ≡ kind (lineAt s places row)) → t ≡ cond (eqb k 11) (ltb last 11) (leb last k)
@@ -91,6 +91,7 @@ module _ {types owners holds rooms exprs : List ℕ} {kinds variables absent : �
         → Turned s last i (h .lines) (e + 1) k types' owners' holds' rooms' exprs' kinds' variables' absent' stmts' inits' actors' bodies' homes' entries' exits' flags' moves' choices' pairs' steps' calls' acts' start' count'
     line-read z t q = rw z (record {
       lines = put said-line (h .lines);
+      more = record { ends = e; until = u; line = said-line; says = says; next = refl; sort = refl; taken = refl };
       same = λ n. read-on s last (h .lines) n i e u l said-line says o (sym (t .told) ∙ q);
       gathered = t .done q;
       later = later-more last (h .lines) said-line o (h .later);

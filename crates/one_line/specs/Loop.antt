@@ -1,7 +1,8 @@
--- THE LOOP over the lines: what is asked before a line, what comes of it, and what comes of them all.
+-- BEFORE A LINE AND AFTER IT: what is asked before it, and what comes of it.
 use Prim.Native.Nat.{ℕ, _+_, _≤_, _<_}
 use mathlib.Core.Path.{_≡_}
 use mathlib.Core.Logic.{dite}
+use mathlib.Core.Option.{some}
 use mathlib.Core.Bool.{true}
 use mathlib.Core.List.{List}
 use native.Mathlib.Decide.{ℕ-discrete}
@@ -12,15 +13,15 @@ use lib.ListN.{length}
 use Rattle.answers.specs.declared.Answer.{Answer}
 use Rattle.programs.specs.Sizes.{TEXT}
 use Rattle.texts.specs.Bytes.{LF}
-use Rattle.texts.specs.Forms.{Said}
-use Rattle.texts.specs.Reading.{Tables, kind, ordered, refused}
-use Rattle.numerals.specs.Splits.{Until}
+use Rattle.texts.specs.Forms.{Said, said}
+use Rattle.texts.specs.Reading.{Tables, put, kind, ordered, refused}
+use Rattle.numerals.specs.Splits.{span, Until}
 use Rattle.shapes.specs.Lines.{LineAt}
 use Rattle.taking_lines.specs.Asked.{Gathered}
-use Rattle.reading.specs.declared.Turn.{Turn}
-use Rattle.reading.specs.declared.Turn.the-variants.{On, Refused}
-use Rattle.reading.specs.Turns.{readFrom}
-use Rattle.reading.specs.Order.{Later, Weighs}
+use Rattle.one_line.specs.declared.Turn.{Turn}
+use Rattle.one_line.specs.declared.Turn.the-variants.{On, Refused}
+use Rattle.one_line.specs.Turns.{readFrom}
+use Rattle.one_line.specs.Order.{Later, Weighs}
 
 -- BEFORE A LINE at place i, after lines the last of which is of kind `last`
 pub record LineTurn (s : List ℕ) (last i : ℕ) (types owners holds rooms exprs : List ℕ) (kinds variables absent : ℕ) (stmts inits actors bodies homes entries exits flags moves choices : List ℕ) (pairs steps calls acts start count : ℕ) : Type 0 where
@@ -31,9 +32,20 @@ pub record LineTurn (s : List ℕ) (last i : ℕ) (types owners holds rooms expr
   pub inside : i < length s
   pub short : length s ≤ TEXT
 
+-- THE LINE at place i, of kind k, which ends before place j: with it the lines a become b
+pub record OneMore (s : List ℕ) (i : ℕ) (a : Tables) (j k : ℕ) (b : Tables) : Type 0 where
+  pub ends : ℕ
+  pub until : Until LF s i (length s) ends
+  pub line : Said
+  pub says : said (span i ends s) ≡ some line
+  pub next : j ≡ ends + 1
+  pub sort : k ≡ kind line
+  pub taken : b ≡ put line a
+
 -- AFTER A LINE that is read: the next begins at place j, after one of kind k
 pub record Turned (s : List ℕ) (last i : ℕ) (a : Tables) (j k : ℕ) (types owners holds rooms exprs : List ℕ) (kinds variables absent : ℕ) (stmts inits actors bodies homes entries exits flags moves choices : List ℕ) (pairs steps calls acts start count : ℕ) : Type 0 where
   pub lines : Tables
+  pub more : OneMore s i a j k lines
   pub same : (n : ℕ) → readFrom s last a n i ≡ readFrom s k lines (n + 1) j
   pub gathered : Gathered lines types owners holds rooms exprs kinds variables absent stmts inits actors bodies homes entries exits flags moves choices pairs steps calls acts start count
   pub later : Later k lines

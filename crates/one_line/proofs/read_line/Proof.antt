@@ -4,11 +4,11 @@ use native.Mathlib.Omega.{arith}
 use borrow.Author.Needs.{needs}
 use borrow.Author.Tests.{not-true, not-false}
 use Rattle.forms.specs.Values.{line-none}
-use Rattle.reading.specs.Turns.{read-cut, read-formless, read-disordered}
-use Rattle.reading.specs.Loop.{line-at}
-use Rattle.reading.specs.LineRead.{says, line-asked, line-unranged, line-read, ordered-told}
-use Rattle.reading.proofs.read_line.Statement.{statement}
-use Rattle.reading.proofs.read_line.Tie as tie
+use Rattle.one_line.specs.Turns.{read-cut, read-formless, read-disordered}
+use Rattle.one_line.specs.Loop.{line-at}
+use Rattle.one_line.specs.LineRead.{says, line-asked, line-unranged, line-read, ordered-told}
+use Rattle.one_line.proofs.read_line.Statement.{statement}
+use Rattle.one_line.proofs.read_line.Tie as tie
 
 until-requires : tie.Need-until-requires
 until-requires c κs = search needs

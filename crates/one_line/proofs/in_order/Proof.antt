@@ -1,7 +1,7 @@
 -- `reading::in_order` meets its contract. Assumes nothing.
 use borrow.Author.Tests.{eq-eqb, ne-eqb}
-use Rattle.reading.proofs.in_order.Statement.{statement}
-use Rattle.reading.proofs.in_order.Tie as tie
+use Rattle.one_line.proofs.in_order.Statement.{statement}
+use Rattle.one_line.proofs.in_order.Tie as tie
 
 returns : tie.Need-returns
 returns c = rw (eq-eqb _ 11 (c .if1 .taken))

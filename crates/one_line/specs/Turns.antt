@@ -9,10 +9,11 @@ use native.Mathlib.Omega.{arith}
 use lib.Dec.{eqb}
 use lib.ListN.{length, drop-of-length-le}
 use Rattle.lists.specs.Lists.{onOpt}
+use Rattle.answers.specs.declared.Answer.{Answer}
 use Rattle.answers.specs.declared.Answer.the-variants.{NotInForm, OutOfRange}
 use Rattle.texts.specs.Bytes.{LF, split, before}
 use Rattle.texts.specs.Forms.{Said, said}
-use Rattle.texts.specs.Reading.{Tables, nothing, put, kind, ordered, ranged, Result, refused, whole, reading}
+use Rattle.texts.specs.Reading.{Tables, tables, nothing, put, kind, ordered, ranged, Result, refused, whole, reading}
 use Rattle.numerals.specs.Splits.{span, Until, span-length, span-rest, span-whole, split-next, split-end}
 
 -- a line x in the form, with more behind it
@@ -47,6 +48,36 @@ read-is last a k ([] ∷ []) = refl
 read-is last a k ((b ∷ l) ∷ []) = refl
 read-is last a k ([] ∷ m ∷ ls) = line last a k m ls (said []) (λ x. read-is (kind x) (put x a) (k + 1) (m ∷ ls))
 read-is last a k ((b ∷ l) ∷ m ∷ ls) = line last a k m ls (said (b ∷ l)) (λ x. read-is (kind x) (put x a) (k + 1) (m ∷ ls))
+
+-- REFUSED at line m: no line in front of the first that is read
+refused-here : (k : ℕ) (x : Answer) (a c : Tables) (b : Answer) (m : ℕ) → _≡_ {A = Result × Tables} (refused x k, a) (refused b m, c) → k ≤ m
+refused-here k x a c b m e = let f : refused x k ≡ refused b m = ap (λ (z : Result × Tables). z .0) e in let g : k ≡ m = cc in omega (arith, g)
+
+-- a text without a start is refused behind its last line
+refused-last : (a : Tables) (k : ℕ) (b : Answer) (m : ℕ) (c : Tables) → _≡_ {A = Result × Tables} (whole a k, a) (refused b m, c) → k ≤ m
+refused-last (tables es ms vs xs ss acs ns ts cs ds [] hs) k b m c e = refused-here k NotInForm (tables es ms vs xs ss acs ns ts cs ds [] hs) c b m e
+refused-last (tables es ms vs xs ss acs ns ts cs ds (s ∷ ss') hs) k b m c e =
+    let f : whole (tables es ms vs xs ss acs ns ts cs ds (s ∷ ss') hs) k ≡ refused b m = ap (λ (z : Result × Tables). z .0) e in let q : _≡_ {A = ℕ} 0 1 = cc in absurd (omega arith)
+
+-- a line and those behind it
+refused-line : (last : ℕ) (a : Tables) (k : ℕ) (o : Option Said) (f : Said → Result × Tables) → ((x : Said) (b : Answer) (m : ℕ) (c : Tables) → f x ≡ (refused b m, c) → k + 1 ≤ m)
+    → (b : Answer) (m : ℕ) (c : Tables) → onOpt o (refused NotInForm k, a) (λ x. readLine last a k x (f x)) ≡ (refused b m, c) → k ≤ m
+refused-line last a k none f h b m c e = refused-here k NotInForm a c b m e
+refused-line last a k (some x) f h b m c e = go (ordered last x) (ranged a x) e
+  where
+    go : (o r : Bool) → cond o (cond r (f x) (refused OutOfRange k, a)) (refused NotInForm k, a) ≡ (refused b m, c) → k ≤ m
+    go true true e = omega (arith, h x b m c e)
+    go true false e = refused-here k OutOfRange a c b m e
+    go false r e = refused-here k NotInForm a c b m e
+
+pub refused-behind : (last : ℕ) (a : Tables) (k : ℕ) (ls : List (List ℕ)) (b : Answer) (m : ℕ) (c : Tables) → readTo last a k ls ≡ (refused b m, c) → k ≤ m
+refused-behind last a k [] b m c e = refused-last a k b m c e
+refused-behind last a k ([] ∷ []) b m c e = refused-last a k b m c e
+refused-behind last a k ((d ∷ l) ∷ []) b m c e = refused-here k NotInForm a c b m e
+refused-behind last a k ([] ∷ n ∷ ls) b m c e =
+    refused-line last a k (said []) (λ x. readTo (kind x) (put x a) (k + 1) (n ∷ ls)) (λ x. refused-behind (kind x) (put x a) (k + 1) (n ∷ ls)) b m c e
+refused-behind last a k ((d ∷ l) ∷ n ∷ ls) b m c e =
+    refused-line last a k (said (d ∷ l)) (λ x. readTo (kind x) (put x a) (k + 1) (n ∷ ls)) (λ x. refused-behind (kind x) (put x a) (k + 1) (n ∷ ls)) b m c e
 
 -- THE LINES THAT ARE HELD when a text is read: all, or those in front of the first that is refused
 abbrev pub heldLines : List ℕ → Tables
