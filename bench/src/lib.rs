@@ -1,10 +1,8 @@
 //! What `./namakviz bench` times: the proved runtime, and the peer that it is timed against.
 
 pub mod plain;
-#[cfg(proved)]
-pub mod proved;
 pub mod stack;
 pub mod texts;
 pub mod timing;
-#[cfg(proved)]
+#[cfg(feature = "proved")]
 pub mod written;

@@ -4,12 +4,10 @@
 //!     bench growth      how the time of a step grows with choices, rooms and heights
 //!     bench stack       the stack that each function uses
 
-#[cfg(proved)]
 mod measures;
 
 use std::process::ExitCode;
 
-#[cfg(proved)]
 fn main() -> ExitCode {
     match std::env::args().nth(1).as_deref() {
         None => measures::times(),
@@ -21,10 +19,4 @@ fn main() -> ExitCode {
         }
     }
     ExitCode::SUCCESS
-}
-
-#[cfg(not(proved))]
-fn main() -> ExitCode {
-    eprintln!("bench: built without the proved runtime: run 'rt staticlib exports' and build again");
-    ExitCode::from(3)
 }

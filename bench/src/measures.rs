@@ -4,12 +4,13 @@ use std::hint::black_box;
 
 use bench::plain::{self, Choice};
 use bench::timing::{alternate, Times};
-use bench::{proved, stack, texts, written};
+use bench::{stack, texts, written};
+use namakviz::raw::{self as proved, Config, Live, LoadNumbers, StepNumbers};
 
 /// A text as both sides have loaded it.
 struct Loaded {
     text: String,
-    ours: Box<proved::Loaded>,
+    ours: Box<LoadNumbers>,
     program: plain::Program,
     choices: Vec<Choice>,
 }
@@ -27,11 +28,21 @@ impl Loaded {
     fn our_choices(&self) -> &[u32] {
         &self.ours.choices[..self.ours.count]
     }
+
+    fn our_start(&self) -> Box<Config> {
+        let started = proved::start(&self.ours.program);
+        assert_eq!(started.answer, 0);
+        Box::new(started.config)
+    }
+
+    fn our_step(&self, config: &mut Config, choice: u32) -> StepNumbers {
+        proved::step(&self.ours.program, config, Live(choice / 256), (choice % 256) as u8)
+    }
 }
 
 /// A whole run from the start configuration, which is copied for each call.
 fn run(loaded: &Loaded) -> Times {
-    let ours_begin = proved::start(&loaded.ours.program);
+    let ours_begin = loaded.our_start();
     let peer_begin = plain::start(&loaded.program);
     let (mut ours, mut peer) = (ours_begin.clone(), peer_begin.clone());
     let mut our_rules = [0; 4096];
@@ -59,13 +70,13 @@ fn checked_step(loaded: &Loaded) -> Times {
     const STEPS: usize = 64;
     let first = loaded.choices.len().saturating_sub(STEPS);
     let (our_last, peer_last) = (&loaded.our_choices()[first..], &loaded.choices[first..]);
-    let mut ours_begin = proved::start(&loaded.ours.program);
+    let mut ours_begin = loaded.our_start();
     let mut peer_begin = plain::start(&loaded.program);
     proved::run(&loaded.ours.program, &mut ours_begin, &loaded.our_choices()[..first], &mut [0; 4096]);
     plain::run(&loaded.program, &mut peer_begin, &loaded.choices[..first], &mut Vec::new());
     let (mut ours, mut peer) = (ours_begin.clone(), peer_begin.clone());
     for (word, choice) in our_last.iter().zip(peer_last) {
-        let stepped = proved::step(&loaded.ours.program, &mut ours, word / 256, (word % 256) as u8);
+        let stepped = loaded.our_step(&mut ours, *word);
         let rule = plain::checked_step(&loaded.program, &mut peer, *choice).expect("every choice takes a step");
         assert_eq!((stepped.answer, stepped.rule), (0, written::rule(&rule)));
     }
@@ -74,7 +85,7 @@ fn checked_step(loaded: &Loaded) -> Times {
         || {
             ours.clone_from(&ours_begin);
             for word in our_last {
-                black_box(proved::step(&loaded.ours.program, &mut ours, word / 256, (word % 256) as u8));
+                black_box(loaded.our_step(&mut ours, *word));
             }
         },
         || {
@@ -101,7 +112,7 @@ fn load(loaded: &Loaded) -> Times {
 }
 
 fn regroup(loaded: &Loaded) -> Times {
-    let ours = proved::start(&loaded.ours.program);
+    let ours = loaded.our_start();
     let peer = plain::start(&loaded.program);
     let mut our_list = vec![0; loaded.choices.len()];
     let mut peer_list = vec![Choice { machine: 0, bits: 0 }; loaded.choices.len()];
@@ -187,7 +198,7 @@ fn print_stack(what: &str, work: impl FnOnce() + Send) {
 pub fn stacks() {
     println!("{:<40} {:>9}", "bytes of stack", "ours");
     let loaded = Loaded::new(texts::ping_pong(4092));
-    let mut config = proved::start(&loaded.ours.program);
+    let mut config = loaded.our_start();
     let begin = config.clone();
     let mut rules = [0; 4096];
     let mut out = vec![0; loaded.choices.len()];
@@ -196,7 +207,7 @@ pub fn stacks() {
         black_box(proved::load(black_box(loaded.text.as_bytes())).count);
     });
     print_stack("step", || {
-        black_box(proved::step(&loaded.ours.program, &mut config, 1, 0));
+        black_box(loaded.our_step(&mut config, 256));
     });
     print_stack("run", || {
         black_box(proved::run(&loaded.ours.program, &mut config, loaded.our_choices(), &mut rules));

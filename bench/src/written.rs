@@ -1,9 +1,10 @@
 //! The peer's choices, rules and configurations written as the proved runtime's, to see that both did the same before they are timed.
 
+use namakviz::raw::{Config, Kind, Live, Room};
+
 use crate::plain::machine::{Entry, Machine, Pair, Pending};
 use crate::plain::program::Value;
 use crate::plain::{self, Choice, Rule};
-use crate::proved::{Config, Kind, Live, Room};
 
 pub fn choice(choice: &Choice) -> u32 {
     choice.machine * 256 + u32::from(choice.bits)
@@ -67,7 +68,7 @@ fn room(machine: Option<&Machine>) -> Room {
     room
 }
 
-fn value_code(value: Value) -> u64 {
+pub fn value_code(value: Value) -> u64 {
     let tagged = |tag: u64, content: u32| (tag << 32) + u64::from(content);
     match value {
         Value::Undefined => 0,

@@ -15,7 +15,7 @@ pub use machine::{accepts, start, Config};
 pub use program::{Choice, Program};
 pub use regroup::regroup;
 pub use run::{checked_step, run, step, Ended, Rule};
-pub use sound::sound;
+pub use sound::{sound, sound_tables};
 
 /// The number of a refusal, from document 01's table.
 pub type Answer = u8;

@@ -5,7 +5,11 @@ use super::{Answer, Program, ACTIONS, EVENTS, EXPRESSIONS, HEIGHT, KINDS, STARS,
 
 /// Whether the program breaks none of 3 to 9, has no void variable and no list that does not ascend.
 pub fn sound(program: &Program) -> bool {
-    let tables = &program.tables;
+    sound_tables(&program.tables)
+}
+
+/// The same of tables that are not yet a program.
+pub fn sound_tables(tables: &Tables) -> bool {
     in_size(tables) && well_formed(tables) && fault(tables).is_none()
 }
 

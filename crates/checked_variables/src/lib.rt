@@ -24,7 +24,7 @@ ghost use Rattle.tables.specs.Decode.{eventsOf, variablesOf};
 ghost use Rattle.checked_variables.specs.Variables.{ValuesHeld, Fits, OwnHeld};
 
 // How many variables the kind has.
-fn kind_count(kinds: &[u16; Program::ALL_VARIABLES + 1], kind: u8) -> usize
+pub fn kind_count(kinds: &[u16; Program::ALL_VARIABLES + 1], kind: u8) -> usize
     ensures { λ r. ⌜ ((types : List ℕ) → r ≡ length (keep (isOf kind) (variablesOf (now (kinds .entry)) types))) ⌝ }
 {
     let n = variable_count(kinds);

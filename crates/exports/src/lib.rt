@@ -1,18 +1,26 @@
 // What a program in Rust or C is given of the runtime: the static library of this crate. Each function passes on what it is handed, asks nothing, and answers in numbers: those that document 01 gives the answers, and those that crates/labels gives the
-// rules. The configuration is held by the caller, who lends it for a step and for a run.
+// rules. The configuration is held by the caller, who lends it for a step and for a run. Other functions read it: which machines live, one machine, a value, a pair.
+use answers::Answer;
 use configs::Config;
 use engine::Outcome;
 use handed_runs::Ending;
+use tables::Kind;
 use tables::Program;
 use values::Live;
+use values::Value;
 ghost use mathlib.Core.Path.{_≡_};
+ghost use mathlib.Core.Bool.{cond};
+ghost use lib.IntN.{pos};
 ghost use lib.ListN.{length};
 ghost use Rattle.answers.specs.Number.{number};
+ghost use Rattle.codes.specs.Codes.{valueOf};
 ghost use Rattle.tabled.specs.Tabled.{loadOf};
-ghost use Rattle.handed.specs.Handed.{stepOf};
+ghost use Rattle.handed.specs.Handed.{fit, stepOf};
 ghost use Rattle.handed_runs.specs.HandedRuns.{runOf, rulesOf, regroupOf, numbersOf, fronted};
 ghost use Rattle.starting.specs.Started.{startOf};
+ghost use Rattle.showing.specs.Shown.{liveOf, shownOf};
 ghost use Rattle.exports.specs.Exported.{loadNumbers, startNumbers, stepNumbers, endNumbers};
+ghost use Rattle.exports.specs.Read.{fitNumber, livingNumbers, machineNumbers, valueNumbers, pairNumbers};
 
 // What a text is loaded as.
 #[repr(C)]
@@ -46,6 +54,41 @@ pub struct EndNumbers {
     pub steps: usize,
 }
 
+// Which machines live: how many, and their live numbers, by room.
+#[repr(C)]
+pub struct LiveNumbers {
+    pub answer: u8,
+    pub count: usize,
+    pub machines: [u32; Program::ROOMS],
+}
+
+// One machine: its kind, the depth of its stack and the state on top, its variables' values, the pairs that wait in its queue.
+#[repr(C)]
+pub struct MachineNumbers {
+    pub answer: u8,
+    pub kind: Kind,
+    pub depth: usize,
+    pub state: u8,
+    pub variables: usize,
+    pub values: [u64; Program::VARIABLES],
+    pub waiting: usize,
+    pub pairs: [u64; Program::QUEUE],
+}
+
+// A value: 0 undefined, 1 a bool, 2 an int, 3 an event, 4 an id; and what it holds.
+#[repr(C)]
+pub struct ValueNumbers {
+    pub kind: u8,
+    pub number: i64,
+}
+
+// A pair: its event, and the number of its value.
+#[repr(C)]
+pub struct PairNumbers {
+    pub event: u32,
+    pub value: u64,
+}
+
 // An outcome in numbers.
 fn step_numbers(o: Outcome) -> StepNumbers
     ensures { λ r. ⌜ r ≡ stepNumbers o ⌝ }
@@ -71,6 +114,38 @@ fn end_numbers(e: Ending) -> EndNumbers
         answer: numbers::number(a),
         place: e.place,
         steps: e.steps,
+    }
+}
+
+// A bool as 1 or 0.
+fn bit(b: bool) -> i64
+    ensures { λ r. ⌜ r ≡ pos (cond b 1 0) ⌝ }
+{
+    if b { 1 } else { 0 }
+}
+
+// A value in numbers.
+fn value_numbers(v: Value) -> ValueNumbers
+    ensures { λ r. ⌜ r ≡ valueNumbers v ⌝ }
+{
+    match v {
+        Value::Undefined => ValueNumbers { kind: 0, number: 0 },
+        Value::Bool(b) => ValueNumbers {
+            kind: 1,
+            number: bit(b),
+        },
+        Value::Int(z) => ValueNumbers {
+            kind: 2,
+            number: z as i64,
+        },
+        Value::Event(e) => ValueNumbers {
+            kind: 3,
+            number: e as i64,
+        },
+        Value::Id(i) => ValueNumbers {
+            kind: 4,
+            number: i.0 as i64,
+        },
     }
 }
 
@@ -143,4 +218,71 @@ pub extern "C" fn namakviz_regroup(
     ensures { λ r. ⌜ (r ≡ number (regroupOf program c (now (choices .entry)) (length (now (out .entry))) .answer)) × (now (out .exit) ≡ fronted (numbersOf (regroupOf program c (now (choices .entry)) (length (now (out .entry))))) (now (out .entry))) ⌝ }
 {
     numbers::number(grouping::regroup(program, c, choices, out))
+}
+
+// THE TEST of what is handed in: 0, or 20.
+#[no_mangle]
+pub extern "C" fn namakviz_fit(program: Program, c: Config) -> u8
+    ensures { λ r. ⌜ r ≡ fitNumber (fit program c) ⌝ }
+{
+    if fitting::fit(program, c) {
+        return numbers::number(Answer::Done);
+    }
+    numbers::number(Answer::NotAccepted)
+}
+
+// THE MACHINES THAT LIVE.
+#[no_mangle]
+pub extern "C" fn namakviz_live(program: Program, c: Config) -> LiveNumbers
+    ensures { λ r. ⌜ r ≡ livingNumbers (liveOf program c) ⌝ }
+{
+    let living = showing::live(program, c);
+    let a = living.answer;
+    let machines = living.machines;
+    LiveNumbers {
+        answer: numbers::number(a),
+        count: living.count,
+        machines: machines,
+    }
+}
+
+// ONE MACHINE.
+#[no_mangle]
+pub extern "C" fn namakviz_machine(program: Program, c: Config, machine: Live) -> MachineNumbers
+    ensures { λ r. ⌜ r ≡ machineNumbers (shownOf program c machine) ⌝ }
+{
+    let m = showing::look(program, c, machine);
+    let a = m.answer;
+    let kind = m.kind;
+    let values = m.values;
+    let pairs = m.pairs;
+    MachineNumbers {
+        answer: numbers::number(a),
+        kind: kind,
+        depth: m.depth,
+        state: m.state,
+        variables: m.variables,
+        values: values,
+        waiting: m.waiting,
+        pairs: pairs,
+    }
+}
+
+// THE VALUE that a number is: any number is one.
+#[no_mangle]
+pub extern "C" fn namakviz_value(x: u64) -> ValueNumbers
+    ensures { λ r. ⌜ r ≡ valueNumbers (valueOf x) ⌝ }
+{
+    value_numbers(codes::value_of(x))
+}
+
+// THE PAIR that a number is: any number is one.
+#[no_mangle]
+pub extern "C" fn namakviz_pair(x: u64) -> PairNumbers
+    ensures { λ r. ⌜ r ≡ pairNumbers x ⌝ }
+{
+    PairNumbers {
+        event: (x / 1099511627776) as u32,
+        value: codes::code(codes::value_of(x % 1099511627776)),
+    }
 }

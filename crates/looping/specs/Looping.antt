@@ -30,7 +30,8 @@ use Rattle.engine.specs.Engine.{Performed}
 use Rattle.heads.specs.Asked.{Tabled, StepAsked}
 use Rattle.handed_runs.specs.declared.Ending.{Ending}
 use Rattle.handed_runs.specs.HandedRuns.{fronted}
-use Rattle.looping.specs.Turns.{later-none, later-more, run-took, ruled-took, run-refused, ruled-refused, fronted-more}
+use Rattle.runs.specs.Turns.{later-none, later-more, run-took, ruled-took, run-refused, ruled-refused}
+use Rattle.handed_runs.specs.Fronted.{fronted-more}
 
 -- THE LISTS f hold an accepted configuration; the first n of the numbers l are to be run, and `row` has a place for the rule of each
 pub record RunAsked (exprs stmts inits types owners vartypes doers bodies kinds entries exits defers says places : List ℕ) (f : Flat) (l : List ℕ) (n : ℕ) (row : List ℕ) : Type 0 where

@@ -12,7 +12,7 @@ use lib.ListN.{getD, set, length-set}
 use lib.Seq.{getD-set-same, getD-set-other}
 use Rattle.regrouping.specs.Regrouped.{mine, others}
 use Rattle.placing.specs.Placed.{owner}
-use Rattle.placing.specs.Mine.{mine-others, mine-gone}
+use Rattle.regrouping.specs.Mine.{mine-others, mine-gone}
 use Rattle.placing.specs.Written.{ofMachine, part-none}
 use Rattle.placing.specs.Waiting.{Waiting}
 

@@ -10,7 +10,7 @@ use Rattle.lists.specs.Ends.{lastOf, take-init}
 use Rattle.regrouping.specs.Regrouped.{mine, others, byNumber, weave}
 use Rattle.regrouping.specs.Demand.{choices}
 use Rattle.placing.specs.Placed.{owner, ownerAt, withRules, ownN, meetN, placedList}
-use Rattle.placing.specs.Maps.{map-mine, map-others, map-byNumber}
+use Rattle.regrouping.specs.Maps.{map-mine, map-others, map-byNumber}
 use Rattle.placing.specs.Written.{ofMachine, part-with, sets-behind, sets-front, Room}
 use Rattle.placing.specs.Closing.{Without}
 use Rattle.placing.specs.Weaving.{entries, allOf, all-length, Lists, Weaving}

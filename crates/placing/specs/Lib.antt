@@ -1,11 +1,9 @@
 -- the definition of what is written
 pub mod Placed
--- regrouping looks at nothing but an entry's machine and its class
-pub mod Maps
+-- placing by the definition's list, and by the run's rules
 pub mod Regroups
 pub mod ByRun
--- the entries of one machine, and a machine's part of the choices
-pub mod Mine
+-- a machine's part of the choices
 pub mod Written
 -- the table of the machines that have choices not yet placed
 pub mod Waiting

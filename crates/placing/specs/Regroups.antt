@@ -14,7 +14,7 @@ use Rattle.meetings.specs.Meetings.{own, meets}
 use Rattle.regrouping.specs.Regrouped.{regrouped}
 use Rattle.regrouping.specs.Demand.{choices, ownE, meetE}
 use Rattle.placing.specs.Placed.{owner, withRules, ownN, meetN, woven, placedList}
-use Rattle.placing.specs.Maps.{map-regrouped}
+use Rattle.regrouping.specs.Maps.{map-regrouped}
 
 -- a choice and its rule as numbers
 abbrev numbered : Choice × Rule → ℕ × ℕ

@@ -7,7 +7,7 @@ use lib.ListN.{length, getD, length-append}
 use lib.Seq.{sets, length-sets}
 use Rattle.regrouping.specs.Regrouped.{others, tails, byNumber}
 use Rattle.placing.specs.Placed.{owner}
-use Rattle.placing.specs.Mine.{byNumber-next}
+use Rattle.regrouping.specs.Mine.{byNumber-next}
 use Rattle.placing.specs.Written.{ofMachine, sets-behind, Room}
 use Rattle.placing.specs.Waiting.{Waiting, all-placed}
 use Rattle.placing.specs.Closing.{Lowest, none-lower, closed, Without, without-row}

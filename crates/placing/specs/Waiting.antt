@@ -11,7 +11,7 @@ use lib.ListN.{length, getD, set, length-set}
 use lib.Seq.{getD-set-same, getD-set-other}
 use Rattle.regrouping.specs.Regrouped.{mine}
 use Rattle.placing.specs.Placed.{owner, ownerAt}
-use Rattle.placing.specs.Mine.{mine-with, mine-without, none-left}
+use Rattle.regrouping.specs.Mine.{mine-with, mine-without, none-left}
 use Rattle.placing.specs.Written.{ofMachine, part-none, part-with, part-without}
 
 -- The first `used` rows of the table hold the machines of u, the choices before place i that are not yet placed.

@@ -14,7 +14,7 @@ use Rattle.regrouping.specs.Regrouped.{mine, others, weave}
 use Rattle.regrouping.specs.Demand.{choices}
 use Rattle.regrouping.specs.Swaps.{swaps-weave, swaps-length}
 use Rattle.placing.specs.Placed.{owner, ownerAt, withRules, ownN, meetN, woven}
-use Rattle.placing.specs.Maps.{map-mine, map-others}
+use Rattle.regrouping.specs.Maps.{map-mine, map-others}
 use Rattle.placing.specs.Written.{ofMachine, part-with, sets-behind, Room}
 use Rattle.placing.specs.Waiting.{Waiting, nobody, passes}
 use Rattle.placing.specs.Closing.{Without}

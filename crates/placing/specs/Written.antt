@@ -11,7 +11,7 @@ use lib.Seq.{sets, sets-eq, take-suc, take-add, drop-append-le, length-take-le}
 use Rattle.lists.specs.Keep.{keep-append}
 use Rattle.regrouping.specs.Regrouped.{mine}
 use Rattle.placing.specs.Placed.{owner}
-use Rattle.placing.specs.Mine.{mine-with, mine-without}
+use Rattle.regrouping.specs.Mine.{mine-with, mine-without}
 
 -- machine k's choices from place f on, up to place e, which is left out
 unfoldable pub ofMachine : List ℕ → ℕ → ℕ → ℕ → List ℕ

@@ -6,6 +6,9 @@ pub mod Demand
 pub mod Tails
 pub mod Swaps
 pub mod Theorem
+-- an entry more; an entry's machine and its class are all that counts
+pub mod Mine
+pub mod Maps
 -- a run and its labels
 pub mod Labelled
 -- the same choices

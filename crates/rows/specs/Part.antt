@@ -7,9 +7,9 @@ use Prim.Native.Nat.{ℕ, _+_, _-_, _*_, _≤_, _<_}
 use native.Mathlib.Omega.{arith}
 use native.Mathlib.Decide.{ℕ-discrete}
 use native.Mathlib.Nat.{mul-le-mul-right, suc-mul, zero-add}
-use lib.ListN.{length, take, drop, getD, set, length-append, length-take, length-drop, length-set, List·getD-append}
+use lib.ListN.{length, take, drop, getD, set, replicate, length-replicate, length-append, length-take, length-drop, length-set, List·getD-append}
 use lib.Seq.{ext-getD, getD-append-add, getD-set-same, getD-set-other, getD-take, getD-drop, length-take-le, take-take, drop-length}
-use Rattle.rows.specs.Pad.{below?}
+use Rattle.rows.specs.Pad.{below?, zeros-get}
 
 -- k is outside the n places from b on
 abbrev pub Off : ℕ → ℕ → ℕ → Type 0
@@ -182,3 +182,11 @@ module _ {A : Type 0} (z : A) where
     pub row-set-other : (j : ℕ) (v : A) (k : ℕ) → j < w → k * w + w ≤ length xs → (k ≡ i → ⊥) → part (k * w) w (set xs (i * w + j) v) ≡ part (k * w) w xs
     row-set-other j v k hj hk n = ap (λ (l : List A). part (k * w) w l) (set-put (i * w) w xs j v h hj)
         ∙ row-other (set (part (i * w) w xs) j v) k (length-set (part (i * w) w xs) j v ∙ part-length (i * w) w xs h) hk n
+
+-- a part of a list of which all elements are z
+pub part-replicate : {A : Type 0} (z : A) (b w n : ℕ) → b + w ≤ n → part b w (replicate n z) ≡ replicate w z
+part-replicate z b w n h = ext-getD z (part b w (replicate n z)) (replicate w z) (long ∙ sym (length-replicate w z))
+    (λ j i. part-get b w (replicate n z) j z (omega (arith, long)) ∙ zeros-get z n (b + j) ∙ sym (zeros-get z w j))
+  where
+    long : length (part b w (replicate n z)) ≡ w
+    long = part-length b w (replicate n z) (omega (arith, length-replicate n z))

@@ -1,5 +1,5 @@
 -- The start configuration as it comes about: a new machine laid into the first room of lists that are all zero.
-use Prim.Native.Nat.{ℕ, _+_, _*_, _≤_, _<_}
+use Prim.Native.Nat.{ℕ, _*_, _≤_, _<_}
 use mathlib.Core.Path.{_≡_, refl, sym, ap, _∙_}
 use mathlib.Core.Option.{none}
 use mathlib.Core.List.{List, []}
@@ -8,7 +8,7 @@ use lib.ListN.{length, replicate, set, length-replicate, getD-replicate, length-
 use lib.Seq.{ext-getD}
 use Rattle.lists.specs.Lists.{at}
 use Rattle.rows.specs.Pad.{zeros-get}
-use Rattle.rows.specs.Part.{part, part-length, part-get, put-length, within}
+use Rattle.rows.specs.Part.{part, part-length, part-replicate, put-length, within}
 use Rattle.rows.specs.Seek.{table, table-length, table-at}
 use Rattle.values.specs.declared.Value.the-variants.{Undefined as undefined}
 use Rattle.values.specs.Values.{idOf}
@@ -30,14 +30,6 @@ use Rattle.rooms.specs.Standing.{changed-written}
 use Rattle.beginnings.specs.Initial.{initialIn, initial-is}
 use Rattle.beginnings.specs.Inits.{written-blank}
 use Rattle.creating.specs.Newborn.{LayAsked, NewLaid, free-placing, own-row, new-changed}
-
--- a part of zeros is zeros
-part-zeros : (b w n : ℕ) → b + w ≤ n → part {A = ℕ} b w (replicate n 0) ≡ replicate w 0
-part-zeros b w n h = ext-getD 0 (part b w (replicate n 0)) (replicate w 0) (long ∙ sym (length-replicate {A = ℕ} w 0))
-    (λ j i. part-get b w (replicate n 0) j 0 (omega (arith, long)) ∙ zeros-get 0 n (b + j) ∙ sym (zeros-get 0 w j))
-  where
-    long : length (part {A = ℕ} b w (replicate n 0)) ≡ w
-    long = part-length b w (replicate n 0) (omega (arith, length-replicate {A = ℕ} n 0))
 
 -- THE LISTS OF NO MACHINE, before live number n
 abbrev pub unlaid : ℕ → Flat
@@ -65,14 +57,14 @@ unlaid-free n j h = room-path
     (zeros-get 0 32 j)
     (zeros-get 0 32 j)
     (zeros-get 0 32 j)
-    (part-zeros (j * 8) 8 256 (within 8 32 j h))
-    (part-zeros (j * 512) 512 16384 (within 512 32 j h))
-    (part-zeros (j * 19) 19 608 (within 19 32 j h))
+    (part-replicate 0 (j * 8) 8 256 (within 8 32 j h))
+    (part-replicate 0 (j * 512) 512 16384 (within 512 32 j h))
+    (part-replicate 0 (j * 19) 19 608 (within 19 32 j h))
     (zeros-get 0 32 j)
-    (part-zeros (j * 33) 33 1056 (within 33 32 j h))
+    (part-replicate 0 (j * 33) 33 1056 (within 33 32 j h))
     (zeros-get 0 32 j)
     (zeros-get 0 32 j)
-    (part-zeros (j * 16) 16 512 (within 16 32 j h))
+    (part-replicate 0 (j * 16) 16 512 (within 16 32 j h))
 
 -- and so they hold the configuration of no machine
 unlaid-holds : (n : ℕ) → held (unlaid n) ≡ written (record { rooms = replicate 32 none; next = n })

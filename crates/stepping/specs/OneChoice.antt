@@ -30,7 +30,7 @@ use Rattle.admitting.specs.Admitting.{Laid}
 use Rattle.handed.specs.Handed.{after}
 use Rattle.handed_runs.specs.declared.Ending.{Ending}
 use Rattle.handed_runs.specs.HandedRuns.{fronted}
-use Rattle.looping.specs.Turns.{run-took, ruled-took, run-refused}
+use Rattle.runs.specs.Turns.{run-took, ruled-took, run-refused}
 use Rattle.looping.specs.Looping.{RunLeft}
 use Rattle.accepted_runs.specs.AcceptedRuns.{AcceptedAsked}
 use Rattle.stepping.specs.Stepping.{Left, stepped, step-done}

@@ -12,7 +12,7 @@ use Rattle.tables.specs.declared.Kind.{Kind}
 
 -- CONTRACTS `r ≡ definition of the arguments`: values (checked, apply1, apply2, suits, int_of), codes (code, value_of, canonical), tables (all but
 -- the three look-ups of a kind), terms (expr_at, stmt_at), numbers (number), evaluation (eval), queues (holds, room_for), lifting (lift), soundly (sound),
--- beginnings (initial_state), storing (number), owning (top_state, top_map), naming (both), doubling (either);
+-- beginnings (initial_state), storing (number), owning (top_state, top_map), naming (both), doubling (either), fitting (fit), showing (live, look);
 -- copies (copy_u8, copy_u16, copy_u64, clear_u8, clear_u16, clear_u64) and marks (mark_low, mark_inner) of what they were lent. Where a bound
 -- stands beside the equation (faults: onward, joined, front) the equation alone decides
 pub one-result : {A : Type 0} (definition r s : A) → r ≡ definition → s ≡ definition → r ≡ s
@@ -28,7 +28,7 @@ decided-one P r s = agree r s
 
 -- CONTRACTS THAT HOLD FOR EVERY x of which P holds, where there is one: the functions that are lent tables, of every program that the tables are. What is lent
 -- is such a program's in each call: maps (pops, held_back, exit_or_skip, call_map of the maps that it leaves), turns (turn_of), naming (stmts_refer), lowering
--- (lower), singling (single), lowness (low), ownness (own)
+-- (lower), singling (single), lowness (low), ownness (own); checked_variables (kind_count), of any types
 pub each-one : {A B : Type 0} (P : A → Type 0) (definition : A → B) (x : A) → P x → (r s : B) → ((y : A) → P y → r ≡ definition y) → ((y : A) → P y → s ≡ definition y) → r ≡ s
 each-one P definition x at r s h k = h x at ∙ sym (k x at)
 

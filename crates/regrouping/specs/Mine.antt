@@ -1,4 +1,4 @@
--- Laws of the entries of one machine and of those of the others, beside those of crates/regrouping/specs/Tails.antt: one entry more behind the list, and the next machine by number.
+-- Laws of the entries of one machine and of those of the others, beside those of specs/Tails.antt: one entry more behind the list, and the next machine by number.
 use Prim.Native.Nat.{ℕ, _≤_, _<_}
 use mathlib.Core.Path.{_≡_, refl, sym, ap, _∙_}
 use mathlib.Core.Logic.{_≢_}

@@ -1,0 +1,2 @@
+-- the name of a file
+pub mod FileName
