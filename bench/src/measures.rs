@@ -206,6 +206,9 @@ pub fn stacks() {
     print_stack("load", || {
         black_box(proved::load(black_box(loaded.text.as_bytes())).count);
     });
+    print_stack("start", || {
+        black_box(proved::start(&loaded.ours.program).answer);
+    });
     print_stack("step", || {
         black_box(loaded.our_step(&mut config, 256));
     });
@@ -214,5 +217,14 @@ pub fn stacks() {
     });
     print_stack("regroup", || {
         black_box(proved::regroup(&loaded.ours.program, &begin, loaded.our_choices(), &mut out));
+    });
+    print_stack("fit", || {
+        black_box(proved::fit(&loaded.ours.program, &begin));
+    });
+    print_stack("live", || {
+        black_box(proved::live(&loaded.ours.program, &begin).count);
+    });
+    print_stack("machine", || {
+        black_box(proved::machine(&loaded.ours.program, &begin, Live(1)).answer);
     });
 }
