@@ -73,8 +73,9 @@ def expr_line(row: List[int]) -> str:
 
 def stmt_line(row: List[int], inits: Row) -> str:
     kind, x, y, z, n = row
-    pairs = [f"{inits.at(2 * place)}:{inits.at(2 * place + 1)}" for place in range(z, min(z + n, 15000))] if kind == 2 else []
-    return named(STMTS, kind).format(x=x, y=y, z=z, low_x=min(x, 255), low_y=min(y, 255), init=",".join(pairs) or "none")
+    pairs = [f"{inits.at(2 * place)}:{inits.at(2 * place + 1)}" for place in range(z, min(z + n, 15000)) if kind == 2]
+    init = ",".join(pairs) or "none"
+    return named(STMTS, kind).format(x=x, y=y, z=z, low_x=min(x, 255), low_y=min(y, 255), init=init)
 
 
 def move_lines(moves: Row, first: int, count: int, form: str) -> List[str]:
@@ -163,7 +164,8 @@ def machine_of(program: Program, room: Dict) -> Machine:
     if room["depth"] > STACK or room["count"] > ROW or room["waiting"] > QUEUE or room["kind"] not in program.machines:
         raise NotOne
     states, maps, values, parts, pairs = (Row(room[name]) for name in ("states", "maps", "values", "parts", "pairs"))
-    frames = [Frame(states.at(place), {event: entry_of(maps.at(EVENTS * place + event - 1)) for event in program.events})
+    frames = [Frame(states.at(place),
+                    {event: entry_of(maps.at(EVENTS * place + event - 1)) for event in program.events})
               for place in range(room["depth"])]
     this = value_of(values.at(VARIABLES))
     held = room["held"]
@@ -243,7 +245,7 @@ def compare_load(case: Dict) -> None:
     loaded = namakviz.load(text)
     if isinstance(loaded, Refused):
         demand("load", (ours["answer"], ours["line"]), tuple(loaded))
-        demand("load: nothing is loaded", lines_of(ours["program"]) + bytes(ours["choices"]), b"start=0\n")
+        demand("load: nothing is loaded", (lines_of(ours["program"]), ours["choices"]), (b"start=0\n", []))
         return
     demand("load", (ours["answer"], ours["line"]), (0, 0))
     program_lines = [line for line in text.splitlines(keepends=True) if not line.startswith(b"choice")]
@@ -319,8 +321,8 @@ def compare_shown(case: Dict, config: Optional[Config]) -> None:
     demand("live", case["live"], {"answer": answer, "machines": live})
     machine = None if config is None else config.find(case["machine"])
     if machine is None:
-        answer = 20 if config is None else 19
-        demand("machine", case["shown"], {"answer": answer, "kind": 0, "depth": 0, "state": 0, "values": [], "pairs": []})
+        nothing = {"kind": 0, "depth": 0, "state": 0, "values": [], "pairs": []}
+        demand("machine", case["shown"], {"answer": 20 if config is None else 19, **nothing})
         return
     demand("machine", case["shown"], {
         "answer": 0,

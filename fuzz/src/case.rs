@@ -1,4 +1,4 @@
-//! A case: what is handed in. It hangs on the seed and its number alone, and it is made with the peer: the proved runtime has no part in it.
+//! A case: what is handed in. It depends on the seed and its number alone, and it is made with the peer: the proved runtime has no part in it.
 
 use bench::plain::program::Tables;
 use bench::plain::{self, Choice, Config};

@@ -2,7 +2,7 @@
 //!
 //!     fuzz COUNT SEED FIRST EVERY    COUNT cases from number FIRST on; each EVERY-th goes to the second program too (0: none)
 //!
-//! A case hangs on the seed and its number alone, so that `fuzz 1 SEED NUMBER 1` is that case again.
+//! A case depends on the seed and its number alone, so that `fuzz 1 SEED NUMBER 1` is that case again.
 
 mod case;
 mod check;

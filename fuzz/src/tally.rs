@@ -35,7 +35,7 @@ pub struct Tally {
     answers: [[u64; 23]; 8],
     /// by a step, and by a run
     rules: [[u64; 17]; 2],
-    /// what was handed in, and how often it was answered 0 to 9 of a text, or not 20 of the rest
+    /// what was handed in, and how often it was good: a text that loads, a program that starts, a configuration that is one, a list that runs to its end, a value
     sorts: BTreeMap<(&'static str, Sort), (u64, u64)>,
 }
 

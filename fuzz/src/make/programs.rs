@@ -2,7 +2,6 @@
 
 use bench::plain::program::{Action, Move, Number, State, Tables, Type, Variable};
 use bench::plain::{ACTIONS, EVENTS, EXPRESSIONS, HEIGHT, KINDS, STATEMENTS, STATES, VARIABLES};
-
 use namakviz::raw;
 
 use super::statements::Inside;
