@@ -1,4 +1,6 @@
 // A run of a sound program, given whole, from an accepted configuration that lies in the engine's arrays. The public run and the regrouper call it.
+#![tactic(auto)]
+
 ghost use Rattle.tables.specs.Decode.{program_of};
 ghost use Rattle.configs.specs.Flat.{flat, flat_config};
 ghost use Rattle.looping.specs.Looping.{RunLeft};

@@ -1,4 +1,6 @@
 // The test of a configuration that is handed in (answer 20), over the engine's flat arrays: each room, that live numbers are distinct, and the next one.
+#![tactic(auto)]
+
 ghost use Rattle.std.specs.Prelude.{◌≡◌, ◌<◌, get_or};
 ghost use Rattle.lists.specs.Tells.{Tells};
 ghost use Rattle.programs.specs.Program.{Program as Lines};

@@ -1,5 +1,7 @@
 // The test of a configuration that lies in the engine's arrays, by the program itself: the heights of its statements and the kinds that they serve are worked
 // out, and the arrays are tested with them (answer 20).
+#![tactic(auto)]
+
 ghost use Rattle.lists.specs.Tells.{Tells};
 ghost use Rattle.tables.specs.Decode.{program_of};
 ghost use Rattle.configs.specs.Flat.{flat};

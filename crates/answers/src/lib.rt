@@ -1,6 +1,7 @@
 // The answers of document 01. What each of them says, and its number, stands in specs/Number.antt.
+#![tactic(auto)]
 
-#[derive(Drop)]
+#[derive(Clone, Copy)]
 pub enum Answer {
     Done,
     TextTooLong,

@@ -1,4 +1,6 @@
 // What a new machine begins with: the values of its `init`, worked out by its creator, and its kind's first state.
+#![tactic(auto)]
+
 ghost use Rattle.std.specs.Prelude.{◌≡◌, ◌-◌};
 ghost use Rattle.beginnings.specs.Inits.{InitsAsked, Begun};
 ghost use Rattle.beginnings.specs.Initial.{initial_in};

@@ -1,4 +1,6 @@
 // The test of a room's queue that is handed in: its count, its pairs, and zeros behind them. What is asked of it stands in specs/Queues.antt.
+#![tactic(auto)]
+
 ghost use Rattle.std.specs.Prelude.{◌≡◌, ◌+◌, ◌*◌, ◌≤◌, ◌<◌, length, get_or};
 ghost use Rattle.lists.specs.Tells.{Tells};
 ghost use Rattle.rows.specs.Part.{part};

@@ -1,5 +1,7 @@
 // Whether a row of parts that is handed in can be an accepted machine's: each part suits the machine's kind and is low enough, the head is in form, and the
 // places behind the parts are zero.
+#![tactic(auto)]
+
 ghost use Rattle.std.specs.Prelude.{◌≡◌, ◌+◌, ◌*◌, ◌≤◌};
 ghost use Rattle.lists.specs.Tells.{Tells};
 ghost use Rattle.rows.specs.Part.{part};

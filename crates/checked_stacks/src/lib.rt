@@ -1,5 +1,7 @@
 // Whether a call stack that is handed in can be an accepted machine's: its states are of the machine's kind, an entry of a map is nothing, deferred or an
 // action of the kind, and all other places are zero.
+#![tactic(auto)]
+
 ghost use Rattle.std.specs.Prelude.{◌≡◌, ◌+◌, ◌*◌, ◌≤◌, length};
 ghost use Rattle.lists.specs.Tells.{Tells};
 ghost use Rattle.rows.specs.Part.{part};

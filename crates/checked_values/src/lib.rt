@@ -1,5 +1,7 @@
 // The test of what is handed in, number by number: a value, a pair, and what is pending. Each answers whether the number is one
 // that an accepted configuration holds; what that asks stands in specs/Numbers.antt.
+#![tactic(auto)]
+
 ghost use Rattle.std.specs.Prelude.{◌≡◌, ◌&&◌, leb, ltb, length};
 ghost use Rattle.lists.specs.Lists.{there};
 ghost use Rattle.lists.specs.Tells.{Tells};

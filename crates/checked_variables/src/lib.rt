@@ -1,5 +1,7 @@
 // The test of a room's values that are handed in: one for each variable of its kind, zeros behind them, and `this`, `msg` and `arg`. What is asked of them
 // stands in specs/Variables.antt.
+#![tactic(auto)]
+
 ghost use Rattle.std.specs.Prelude.{◌≡◌, List, ℕ, ◌+◌, ◌*◌, ◌≤◌, ◌<◌, length};
 ghost use Rattle.lists.specs.Lists.{keep};
 ghost use Rattle.lists.specs.Tells.{Tells};

@@ -1,4 +1,6 @@
 // The accessors of a choice, which is lent as one number: any number is a choice.
+#![tactic(auto)]
+
 ghost use Rattle.std.specs.Prelude.{◌≡◌};
 ghost use Rattle.choices.specs.Choices.{choice_of};
 

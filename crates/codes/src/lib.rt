@@ -1,4 +1,6 @@
 // Values as numbers, for arrays. What the numbers mean stands in specs/Codes.antt.
+#![tactic(auto)]
+
 ghost use Rattle.std.specs.Prelude.{◌≡◌, cond};
 ghost use Rattle.codes.specs.Codes.{tagged, int_code, code_of, value_of, canonical};
 

@@ -1,10 +1,12 @@
 // The configuration as the controller holds it: 32 rooms, each with a machine's frames, values, row and queue in flat arrays. How it reads as a
 // configuration of the definitions stands in specs/Decode.antt, and how such a configuration is written in specs/Encode.antt.
+#![tactic(auto)]
+
 use tables::{Kind, Program};
 use values::Live;
 
 #[repr(C)]
-#[derive(Drop)]
+#[derive(Clone, Copy)]
 pub struct Room {
     // 0: the room is free
     pub this: Live,
@@ -26,7 +28,7 @@ pub struct Room {
 }
 
 #[repr(C)]
-#[derive(Drop)]
+#[derive(Clone, Copy)]
 pub struct Config {
     // the next live number
     pub next: u32,

@@ -1,4 +1,6 @@
 // A run of numbers copied from one slice into another, or cleared: each the same loop, once a width.
+#![tactic(auto)]
+
 ghost use Rattle.std.specs.Prelude.{◌≡◌, ◌+◌, ◌≤◌, length, replicate};
 ghost use Rattle.rows.specs.Part.{part, put};
 ghost use Rattle.copies.specs.Copies.{Within};

@@ -1,4 +1,6 @@
 // NEW: a machine begins in the lowest free room, and its creator moves on. Where it is refused nothing is changed.
+#![tactic(auto)]
+
 ghost use Rattle.std.specs.Prelude.{List, ℕ};
 ghost use Rattle.machines.specs.Config.{Reply};
 ghost use Rattle.creating.specs.Newborn.{LayAsked, NewLaid};

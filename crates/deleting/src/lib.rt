@@ -1,4 +1,6 @@
 // DELETE: a machine's room becomes free, every place of it zero.
+#![tactic(auto)]
+
 ghost use Rattle.std.specs.Prelude.{◌+◌, ◌<◌};
 ghost use Rattle.configs.specs.Encode.{free};
 ghost use Rattle.configs.specs.Flat.{flat, Sized};

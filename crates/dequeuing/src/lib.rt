@@ -1,5 +1,7 @@
 // DEQUEUE: the first pair of a room's queue that is not held back is taken. The search and the test come before the first store, so that a refusal changes
 // nothing.
+#![tactic(auto)]
+
 ghost use Rattle.std.specs.Prelude.{List, ℕ, ◌<◌, ◌≤◌, length, get_or, ◌≡◌};
 ghost use Rattle.programs.specs.Program.{Program as Lines};
 ghost use Rattle.machines.specs.Maps.{held_back};

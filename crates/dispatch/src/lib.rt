@@ -1,4 +1,6 @@
 // THE ENGINE'S STEP: which machine, and which of its rules. All tests of a rule come before its first store, so that a refusal leaves the arrays as they were.
+#![tactic(auto)]
+
 ghost use Rattle.configs.specs.Flat.{flat};
 ghost use Rattle.engine.specs.Engine.{Performed};
 ghost use Rattle.heads.specs.Asked.{StepAsked};

@@ -1,4 +1,6 @@
 // Whether the live numbers of what is handed in are distinct: no two rooms hold the same number other than 0.
+#![tactic(auto)]
+
 ghost use Rattle.std.specs.Prelude.{◌≡◌, ◌<◌};
 ghost use Rattle.lists.specs.Tells.{Tells};
 ghost use Rattle.programs.specs.Program.{Program as Lines};

@@ -1,5 +1,7 @@
 // Numbers named one after the other, with a mark for each that was named before: whether one is named again. So of the expressions and the statements that
 // an expression or a statement names.
+#![tactic(auto)]
+
 ghost use Rattle.std.specs.Prelude.{◌≡◌, ◌||◌, List, [], ◌∷◌, map, ℕ};
 ghost use Rattle.programs.specs.Trees.{operands};
 ghost use Rattle.programs.specs.Statements.{parts, exprs_of};

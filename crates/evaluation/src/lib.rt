@@ -1,5 +1,7 @@
 // Expressions worked out, in the store that the configuration's arrays hold. What comes out stands in specs/Evaluated.antt: the value's number, and
 // the bits that the stars leave, in one number, so that a call of `eval` needs little of the stack.
+#![tactic(auto)]
+
 ghost use Rattle.std.specs.Prelude.{◌≡◌, ◌+◌, ◌*◌, ◌/◌, ◌%◌, ◌<◌, length, get_or};
 ghost use Rattle.lists.specs.Lists.{All};
 ghost use Rattle.values.specs.declared.Value.TheVariants.{Bool as vbool};

@@ -1,5 +1,7 @@
 // What a program in Rust or C is given of the runtime: the static library of this crate. Each function passes on what it is handed, asks nothing, and answers in numbers: those that document 01 gives the answers, and those that crates/labels gives the
 // rules. The configuration is held by the caller, who lends it for a step and for a run. Other functions read it: which machines live, one machine, a value, a pair.
+#![tactic(auto)]
+
 ghost use Rattle.std.specs.Prelude.{◌≡◌, cond, pos, length};
 ghost use Rattle.answers.specs.Number.{number};
 ghost use Rattle.codes.specs.Codes.{value_of};
@@ -20,7 +22,7 @@ use values::{Live, Value};
 
 // What a text is loaded as.
 #[repr(C)]
-#[derive(Drop)]
+#[derive(Clone, Copy)]
 pub struct LoadNumbers {
     pub program: Program,
     pub choices: [u32; Program::CHOICES],
@@ -31,7 +33,7 @@ pub struct LoadNumbers {
 
 // What a program starts with.
 #[repr(C)]
-#[derive(Drop)]
+#[derive(Clone, Copy)]
 pub struct StartNumbers {
     pub config: Config,
     pub answer: u8,
@@ -39,7 +41,7 @@ pub struct StartNumbers {
 
 // A step: its answer, and the number of its rule where that is 0.
 #[repr(C)]
-#[derive(Drop)]
+#[derive(Clone, Copy)]
 pub struct StepNumbers {
     pub answer: u8,
     pub rule: u8,
@@ -47,7 +49,7 @@ pub struct StepNumbers {
 
 // How a run ended.
 #[repr(C)]
-#[derive(Drop)]
+#[derive(Clone, Copy)]
 pub struct EndNumbers {
     pub answer: u8,
     pub place: usize,
@@ -56,7 +58,7 @@ pub struct EndNumbers {
 
 // Which machines live: how many, and their live numbers, by room.
 #[repr(C)]
-#[derive(Drop)]
+#[derive(Clone, Copy)]
 pub struct LiveNumbers {
     pub answer: u8,
     pub count: usize,
@@ -65,7 +67,7 @@ pub struct LiveNumbers {
 
 // One machine: its kind, the depth of its stack and the state on top, its variables' values, the pairs that wait in its queue.
 #[repr(C)]
-#[derive(Drop)]
+#[derive(Clone, Copy)]
 pub struct MachineNumbers {
     pub answer: u8,
     pub kind: Kind,
@@ -79,7 +81,7 @@ pub struct MachineNumbers {
 
 // A value: 0 undefined, 1 a bool, 2 an int, 3 an event, 4 an id; and what it holds.
 #[repr(C)]
-#[derive(Drop)]
+#[derive(Clone, Copy)]
 pub struct ValueNumbers {
     pub kind: u8,
     pub number: i64,
@@ -87,7 +89,7 @@ pub struct ValueNumbers {
 
 // A pair: its event, and the number of its value.
 #[repr(C)]
-#[derive(Drop)]
+#[derive(Clone, Copy)]
 pub struct PairNumbers {
     pub event: u32,
     pub value: u64,

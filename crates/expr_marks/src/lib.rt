@@ -1,4 +1,6 @@
 // A table that is worked out of a program: for each kind the expressions that serve it.
+#![tactic(auto)]
+
 ghost use Rattle.std.specs.Prelude.{◌≡◌, map, ◌+◌, ◌≤◌, ◌<◌};
 ghost use Rattle.rows.specs.Seek.{table};
 ghost use Rattle.programs.specs.Program.{Program as Lines};

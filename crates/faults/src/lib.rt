@@ -1,5 +1,7 @@
 // The first faulty line of a program, from the first faulty row of each of its tables: what the passes that decide soundness share. What is meant by a
 // fault, and the laws, stand in specs/Faults.antt; the program that lent arrays read as in specs/Read.antt.
+#![tactic(auto)]
+
 ghost use Rattle.std.specs.Prelude.{◌≡◌, ◌+◌, ◌-◌, ◌*◌, ◌≤◌};
 ghost use Rattle.programs.specs.Sizes.{KINDS, EVENTS, VARIABLES};
 ghost use Rattle.tables.specs.Decode.{count};
@@ -11,7 +13,7 @@ use tables::{
 };
 
 // How many rows the tables have.
-#[derive(Drop)]
+#[derive(Clone, Copy)]
 pub struct Counts {
     pub events: usize,
     pub kinds: usize,

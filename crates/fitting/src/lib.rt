@@ -1,5 +1,7 @@
 // THE TEST OF 20 BY VALUE: whether the program that is handed in is sound, and the configuration is one of it. The configuration is laid into the engine's
 // arrays, and tested there.
+#![tactic(auto)]
+
 ghost use Rattle.std.specs.Prelude.{◌≡◌};
 ghost use Rattle.soundness.specs.Sound.{Sound};
 ghost use Rattle.tables.specs.Decode.{program_of};

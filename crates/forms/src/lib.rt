@@ -1,5 +1,7 @@
 // Which of the 44 forms a line is in, and the places in the text of its values. The forms stand in crates/texts/specs/Forms.antt; what is told of a line
 // stands in specs/Recognised.antt.
+#![tactic(auto)]
+
 ghost use Rattle.std.specs.Prelude.{◌≡◌};
 ghost use Rattle.texts.specs.Forms.{forms};
 ghost use Rattle.shapes.specs.Lines.{LineAt};
@@ -10,7 +12,7 @@ ghost use Rattle.forms.specs.Recognised.{Recognised};
 use scans::Taken;
 
 // The number of a form, counted from 0, 44 where a line is in none; and the places of the values of its holes, in order.
-#[derive(Drop)]
+#[derive(Clone, Copy)]
 pub struct Form {
     pub row: usize,
     pub at: [usize; 5],

@@ -1,4 +1,6 @@
 // Whether a free room of what is handed in is written as a free room is: all its places are zero.
+#![tactic(auto)]
+
 ghost use Rattle.std.specs.Prelude.{◌≡◌, List, ℕ, ◌<◌, get_or};
 ghost use Rattle.lists.specs.Tells.{Tells};
 ghost use Rattle.configs.specs.Encode.{free};

@@ -1,5 +1,7 @@
 // THE REGROUPER: 20, 3, 21 and 22 in that order, and nothing is written; else the regrouped list is written from the front of the lent buffer. The configuration is
 // handed in by value and stays the caller's: the choices before the last are run on a copy of it, for their rules.
+#![tactic(auto)]
+
 ghost use Rattle.std.specs.Prelude.{◌≡◌, length};
 ghost use Rattle.soundness.specs.Sound.{Sound};
 ghost use Rattle.tables.specs.Decode.{program_of};

@@ -1,9 +1,11 @@
 // What a run of what is handed in gives. What each number is stands in specs/HandedRuns.antt.
+#![tactic(auto)]
+
 use answers::Answer;
 use configs::Config;
 
 // How a run ended.
-#[derive(Drop)]
+#[derive(Clone, Copy)]
 pub struct Ending {
     pub answer: Answer,
     // the place of the choice that was refused, counted from 1; 0 where none was
@@ -13,7 +15,7 @@ pub struct Ending {
 }
 
 // The configuration after a run, and how it ended.
-#[derive(Drop)]
+#[derive(Clone, Copy)]
 pub struct Ran {
     pub config: Config,
     pub end: Ending,

@@ -1,4 +1,6 @@
 // The head statement: by the statement, the function of its rule. All tests of a rule come before its first store.
+#![tactic(auto)]
+
 ghost use Rattle.configs.specs.Flat.{flat};
 ghost use Rattle.engine.specs.Engine.{Performed};
 ghost use Rattle.heads.specs.Asked.{HeadAsked};

@@ -1,4 +1,6 @@
 // ANSWERS 4 TO 9 over a program's tables: the passes in their order, with the answer and the line of the first that finds a fault.
+#![tactic(auto)]
+
 ghost use Rattle.std.specs.Prelude.{◌≡◌, List, ℕ, ◌≤◌};
 ghost use Rattle.tables.specs.Decode.{program_of};
 ghost use Rattle.texts.specs.Verdict.{verdict};
@@ -8,7 +10,7 @@ use answers::Answer;
 use tables::Program;
 
 // What the passes say of a program: answer 0, or another at the first faulty line (0 at answer 9).
-#[derive(Drop)]
+#[derive(Clone, Copy)]
 pub struct Verdict {
     pub answer: Answer,
     pub line: usize,

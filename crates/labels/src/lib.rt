@@ -1,4 +1,6 @@
 // A rule as a number, the rule of a number, and which numbers are a meeting's.
+#![tactic(auto)]
+
 ghost use Rattle.std.specs.Prelude.{◌≡◌};
 ghost use Rattle.labels.specs.Labels.{rule_number, rule_of, meeting};
 

@@ -1,4 +1,6 @@
 // A configuration laid into the engine's flat arrays.
+#![tactic(auto)]
+
 ghost use Rattle.std.specs.Prelude.{◌≡◌, ◌<◌, length};
 ghost use Rattle.configs.specs.Flat.{flat, Sized};
 ghost use Rattle.laying.specs.Laying.{Stored, Placed, Holds};

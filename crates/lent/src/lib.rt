@@ -1,4 +1,6 @@
 // The step over a configuration that is lent: the program is read where it lies, the configuration is changed where it lies.
+#![tactic(auto)]
+
 ghost use Rattle.std.specs.Prelude.{◌≡◌};
 ghost use Rattle.handed.specs.Handed.{step_of};
 

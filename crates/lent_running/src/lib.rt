@@ -1,4 +1,6 @@
 // The run over a configuration that is lent: the program is read where it lies, the configuration is changed where it lies.
+#![tactic(auto)]
+
 ghost use Rattle.std.specs.Prelude.{◌≡◌};
 ghost use Rattle.handed_runs.specs.HandedRuns.{run_of, rules_of, fronted};
 

@@ -1,4 +1,6 @@
 // A configuration lifted out of the engine's flat arrays.
+#![tactic(auto)]
+
 ghost use Rattle.std.specs.Prelude.{◌≡◌, ◌<◌, length};
 ghost use Rattle.configs.specs.Flat.{flat, Sized, room_at, held as heldBy};
 ghost use Rattle.lifting.specs.Lifting.{Lifted};

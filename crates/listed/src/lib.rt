@@ -1,4 +1,6 @@
 // What a list says, in the tables of a program: the flags of a state's deferred events, and the pairs of a `new` in the pool.
+#![tactic(auto)]
+
 ghost use Rattle.std.specs.Prelude.{◌≡◌};
 ghost use Rattle.lists.specs.Lists.{all, there};
 ghost use Rattle.rows.specs.Part.{put};

@@ -1,4 +1,6 @@
 // Lists in a part of a text: `defer` and `init`. Numbers of any length are compared by their digits.
+#![tactic(auto)]
+
 ghost use Rattle.std.specs.Prelude.{◌≡◌, min, ltb};
 ghost use Rattle.lists.specs.Lists.{is_some};
 ghost use Rattle.texts.specs.Numbers.{decimal, numbers, pairs};

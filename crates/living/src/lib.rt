@@ -1,4 +1,6 @@
 // The machines left in a configuration.
+#![tactic(auto)]
+
 ghost use Rattle.std.specs.Prelude.{◌≡◌};
 ghost use Rattle.programs.specs.Program.{Program as Definition};
 ghost use Rattle.machines.specs.Rooms.{live};

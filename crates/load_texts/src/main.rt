@@ -1,5 +1,6 @@
 // Loads each text that an argument names, and writes a line for each: its answer and the faulty line. The texts of data/ are generated, and stdout is what the
 // second program answers to them (second/loads.py).
+#![tactic(auto)]
 
 // The text that argument i names; false where there is no such argument, or no such file.
 fn load_one(i: usize) -> bool {

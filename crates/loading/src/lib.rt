@@ -1,5 +1,7 @@
 // THE LOADER: a text read from the first line to the last, judged, and handed out as the tables of its program and its choices; on a refusal nothing is loaded.
 // What it answers stands in crates/texts; the time is linear in the text, and for the passes 4 to 9 in the lines and pairs times the kinds (crates/judging).
+#![tactic(auto)]
+
 ghost use Rattle.std.specs.Prelude.{◌≡◌, ◌≤◌, length};
 ghost use Rattle.programs.specs.Sizes.{TEXT};
 ghost use Rattle.texts.specs.Reading.{refused};

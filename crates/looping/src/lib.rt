@@ -1,4 +1,6 @@
 // A RUN of the engine: choice by choice over the arrays that hold a configuration, until one is refused.
+#![tactic(auto)]
+
 ghost use Rattle.std.specs.Prelude.{◌≤◌, ◌≡◌};
 ghost use Rattle.configs.specs.Flat.{flat};
 ghost use Rattle.looping.specs.Looping.{RunAsked, RunLeft, ended_with};

@@ -1,5 +1,7 @@
 // ANSWER 5: a part is lower than its whole, and each expression and each statement is named at most once. The tables are gone through once, with a mark for
 // each number that was named before.
+#![tactic(auto)]
+
 ghost use Rattle.std.specs.Prelude.{◌≡◌, cond, not, ◌&&◌, List, [], ◌++◌, map, ℕ, ◌≤◌};
 ghost use Rattle.lists.specs.Lists.{flat};
 ghost use Rattle.lists.specs.Check.{under, each};

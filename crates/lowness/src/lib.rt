@@ -1,4 +1,6 @@
 // Answer 8: "height over 32, or more than 8 `*`". The heights and the stars of the expressions are worked out once, upward, and then each line is looked at.
+#![tactic(auto)]
+
 ghost use Rattle.std.specs.Prelude.{◌≡◌, map, ◌+◌, ◌≤◌};
 ghost use Rattle.programs.specs.Program.{Program as Lines};
 ghost use Rattle.programs.specs.Trees.{stars, tip};

@@ -1,5 +1,7 @@
 // What a state does about an event, by the tables that a program is read into and the maps of all frames, 64 places for each: the map whose places begin
 // at b has the entry of event e at b + e - 1.
+#![tactic(auto)]
+
 ghost use Rattle.std.specs.Prelude.{◌≡◌, List, ℕ, ◌+◌, ◌≤◌, length};
 ghost use Rattle.rows.specs.Part.{put};
 ghost use Rattle.programs.specs.Program.{Program as Lines};

@@ -1,4 +1,6 @@
 // Tables that are worked out of a program's statements: the height of each, and for each kind the statements that serve it.
+#![tactic(auto)]
+
 ghost use Rattle.std.specs.Prelude.{◌≡◌, List, ℕ, ◌+◌, ◌-◌, ◌*◌, ◌≤◌, ◌<◌, max};
 ghost use Rattle.programs.specs.Program.{Program as Lines};
 ghost use Rattle.programs.specs.Trees.{operands};
@@ -13,7 +15,7 @@ use programs::Expr;
 use tables::{Head, Program};
 
 // The numbers that a statement or an expression holds: parts, or operands.
-#[derive(Drop)]
+#[derive(Clone, Copy)]
 pub enum Inner {
     Nothing,
     One(u16),

@@ -1,5 +1,7 @@
 // ANSWER 4, of variables, expressions and statements: everything that such a line names is there. One function for a line of each table, and one for
 // each table, which answers its first faulty row.
+#![tactic(auto)]
+
 ghost use Rattle.std.specs.Prelude.{◌≡◌, ◌&&◌, List, ℕ, ◌≤◌, length};
 ghost use Rattle.lists.specs.Lists.{there};
 ghost use Rattle.lists.specs.Check.{each};

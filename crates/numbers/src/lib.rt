@@ -1,4 +1,6 @@
 // The number that document 01 gives each answer.
+#![tactic(auto)]
+
 ghost use Rattle.std.specs.Prelude.{◌≡◌};
 ghost use Rattle.answers.specs.Number.{number};
 

@@ -1,18 +1,20 @@
 // Numbers in a part of a text. A number may have any length: it is cut to 4294967295, which is more than any size or range of the format.
+#![tactic(auto)]
+
 ghost use Rattle.std.specs.Prelude.{◌≡◌, ◌+◌, ◌-◌, ◌*◌, ◌≤◌, min};
 ghost use Rattle.texts.specs.Numbers.{plain, decimal, signed};
 ghost use Rattle.numerals.specs.Numerals.{CAP, capped, capped_int, positive, negative};
 ghost use Rattle.numerals.specs.Splits.{Span, Until};
 
 // What the bytes say: no number, or a number cut to the largest of 32 bits.
-#[derive(Drop)]
+#[derive(Clone, Copy)]
 pub enum Numeral {
     Not,
     Number(u32),
 }
 
 // The same of a number that may have a minus.
-#[derive(Drop)]
+#[derive(Clone, Copy)]
 pub enum Integer {
     Not,
     Is(i64),

@@ -1,5 +1,7 @@
 // One line of a text (answers 2 and 3): it is recognised, its order and its range are tested, and it is taken into the arrays.
 // Every byte is looked at a small constant number of times: once for the end of its line, and again where forms with the same beginning are tried.
+#![tactic(auto)]
+
 ghost use Rattle.std.specs.Prelude.{◌≡◌, cond, eqb, leb, ltb};
 ghost use Rattle.one_line.specs.Loop.{LineTurn, TurnedAs};
 
@@ -7,7 +9,7 @@ use answers::Answer;
 use tables::Program;
 
 // What comes of a line: the next one begins at a place, after a line of a kind; or the line is refused.
-#[derive(Drop)]
+#[derive(Clone, Copy)]
 pub enum Turn {
     On(usize, usize),
     Refused(Answer),

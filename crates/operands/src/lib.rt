@@ -1,4 +1,6 @@
 // What the functions that take an expression, a statement or a state share: an operand of the line, as the tables have it.
+#![tactic(auto)]
+
 ghost use Rattle.std.specs.Prelude.{◌≡◌, cond, drop};
 ghost use Rattle.lists.specs.Lists.{on_opt};
 ghost use Rattle.texts.specs.Numbers.{decimal};

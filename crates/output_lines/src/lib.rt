@@ -1,4 +1,6 @@
 // The lines that the two programs write, each into a lent buffer from a place on; each function answers the place behind what it wrote.
+#![tactic(auto)]
+
 ghost use Rattle.choices.specs.Choices.{choice_of};
 ghost use Rattle.outputs.specs.Programs.{refusal, choice_line};
 ghost use Rattle.writing.specs.Wrote.{Room, Wrote};

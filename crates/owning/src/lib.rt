@@ -1,4 +1,6 @@
 // The heads whose rules touch only the machine itself: by the head, the function of its rule.
+#![tactic(auto)]
+
 ghost use Rattle.std.specs.Prelude.{◌≡◌, List, ℕ, ◌+◌, ◌-◌, ◌*◌, get_or};
 ghost use Rattle.stacks.specs.Stacks.{Deep};
 ghost use Rattle.owning.specs.Owning.{OwnAsked, Owned};

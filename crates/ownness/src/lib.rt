@@ -1,5 +1,7 @@
 // Answer 4 again: "A foreign variable is the fault of the line naming it". Which expression serves which kind is worked out once, and then each line is
 // looked at.
+#![tactic(auto)]
+
 ghost use Rattle.std.specs.Prelude.{◌≡◌, ◌≤◌};
 ghost use Rattle.lists.specs.Lists.{all};
 ghost use Rattle.programs.specs.Program.{Program as Lines};

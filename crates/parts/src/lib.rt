@@ -1,4 +1,6 @@
 // The remaining statement of a room: a row of parts, 33 places from b on in all rooms' parts, its head the last of its n parts, and zeros behind them.
+#![tactic(auto)]
+
 ghost use Rattle.std.specs.Prelude.{◌≤◌};
 ghost use Rattle.parts.specs.Parts.{Row, Ready, Becomes, Said, Any, alone, finished, settled, tidied};
 

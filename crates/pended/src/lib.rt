@@ -1,4 +1,6 @@
 // A machine with an empty row and something pending: the rule that is its next, and what it leaves.
+#![tactic(auto)]
+
 ghost use Rattle.pended.specs.Pended.{PendAsked, PendLeaves};
 
 use engine::Outcome;

@@ -1,5 +1,7 @@
 // The rules of an empty row, where something is pending: STEP, CALL, ACTION and POP1 for a raise, POP2 for a return. Each works on room k in the flat arrays;
 // CALL's test of a full stack comes before its first store.
+#![tactic(auto)]
+
 ghost use Rattle.std.specs.Prelude.{◌≡◌, false, [], ◌∷◌, set};
 ghost use Rattle.parts.specs.Parts.{Said, tidied};
 ghost use Rattle.engine.specs.Holding.{RowBecomes};

@@ -5,6 +5,8 @@
 // COST. A row stands only for a machine that is live, since a machine's deletion is a meeting of its own: there are at most as many rows as live machines. Each choice looks for one row, so at most
 // as many as there are live machines; the parts that a machine's meetings look through do not overlap, and lie within its life, so that together they have at most as many places as there are choices
 // times live machines; and at the end each machine that is left looks through one part and over the rows. So the whole is at most proportional to choices times live machines.
+#![tactic(auto)]
+
 ghost use Rattle.std.specs.Prelude.{◌≡◌, List, [], ◌∷◌, ◌++◌, ℕ, ◌+◌, ◌-◌, ◌≤◌, ◌<◌, length, get_or, drop};
 ghost use Rattle.std.proofs.lemmas.List.Edits.{sets};
 ghost use Rattle.placing.specs.Placed.{owner_at, placed_list};
@@ -18,14 +20,14 @@ ghost use Rattle.placing.specs.Ending.{Handed};
 use tables::Program;
 
 // What a machine's row told when it was closed: the place of its first choice not yet placed, and how many rows are left.
-#[derive(Drop)]
+#[derive(Clone, Copy)]
 struct Closed {
     pub first: usize,
     pub used: usize,
 }
 
 // How many choices are written, and how many rows of the table are used.
-#[derive(Drop)]
+#[derive(Clone, Copy)]
 struct Meetings {
     pub written: usize,
     pub used: usize,

@@ -1,6 +1,8 @@
 // One line's row put into the tables of a program, behind the rows that are there. A function is lent the arrays that it touches; what is asked of them, and
 // what the tables are, stands in specs/Asked.antt and crates/tabled; what the stores make of an array in specs/Stored.antt, and of the table of some lines in
 // specs/More.antt. The flags of a state and the pairs of a `new` are put elsewhere: specs/Flags.antt and specs/Pool.antt say what they make of their tables.
+#![tactic(auto)]
+
 ghost use Rattle.std.specs.Prelude.{◌≡◌, ◌+◌, ◌*◌, ◌<◌, set};
 ghost use Rattle.programs.specs.Sizes.{SPENT};
 ghost use Rattle.tabled.specs.Tabled.{byte_of, word_of};

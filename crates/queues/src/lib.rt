@@ -1,4 +1,6 @@
 // A room's queue in the flat arrays: a pair put to its end, one taken out, and whether one would go in. A pair is its number, 16 places a room.
+#![tactic(auto)]
+
 ghost use Rattle.std.specs.Prelude.{◌≡◌, ◌+◌, ◌≤◌, ◌<◌, eqb, length, get_or};
 ghost use Rattle.lists.specs.Lists.{any, is_some};
 ghost use Rattle.rows.specs.Part.{part};

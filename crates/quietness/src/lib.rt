@@ -1,4 +1,6 @@
 // Answer 7: "an exit with raise, return or leave anywhere inside". Which statements are quiet is worked out once, upward, and then each state is looked at.
+#![tactic(auto)]
+
 ghost use Rattle.std.specs.Prelude.{◌≡◌, ◌≤◌, eqb, length, get_or};
 ghost use Rattle.lists.specs.Lists.{all};
 ghost use Rattle.programs.specs.Program.{Program as Lines};

@@ -1,5 +1,7 @@
 // RAISE: the payload is evaluated and tested before the first store, so that a refusal changes nothing. Then msg and arg are stored, the state's exit or skip
 // remains, and the raise is pending.
+#![tactic(auto)]
+
 ghost use Rattle.std.specs.Prelude.{◌≡◌, ◌+◌, ◌*◌, ◌<◌};
 ghost use Rattle.storing.specs.Storing.{StoredLeft};
 ghost use Rattle.raising.specs.Raising.{RaiseAsked};

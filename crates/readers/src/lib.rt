@@ -1,10 +1,12 @@
 // The reader over the lent text: a struct of the text and a position, which hands out each value as the part of the text that it occupies. What a
 // value is stands in specs/Words.antt.
+#![tactic(auto)]
+
 ghost use Rattle.std.specs.Prelude.{◌≡◌, ◌+◌, length, drop};
 ghost use Rattle.readers.specs.Words.{word};
 
 // The text, and the place in it where the reader stands.
-#[derive(Drop)]
+#[derive(Clone, Copy)]
 pub struct LineReader<'a> {
     pub text: &'a [u8],
     pub at: usize,

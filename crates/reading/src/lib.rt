@@ -1,4 +1,6 @@
 // The lines of a text from the first to the last (answers 2 and 3), one after the other.
+#![tactic(auto)]
+
 ghost use Rattle.reading.specs.Whole.{Begun, ReadAs};
 
 use answers::Answer;
@@ -6,7 +8,7 @@ use one_line::Turn;
 use tables::Program;
 
 // What comes of all lines: the arrays hold them; or one is refused.
-#[derive(Drop)]
+#[derive(Clone, Copy)]
 pub enum Read {
     Whole,
     Refused(Answer, usize),

@@ -1,5 +1,7 @@
 // ANSWER 4: everything that a line names is there, and a transition's and an act's of the state's kind. The passes over actions, states and moves, and the
 // pass over all lines, which answers the first faulty one.
+#![tactic(auto)]
+
 ghost use Rattle.std.specs.Prelude.{◌≡◌, List, ℕ, ◌≤◌, cond};
 ghost use Rattle.lists.specs.Lists.{there};
 ghost use Rattle.lists.specs.Check.{within, each};

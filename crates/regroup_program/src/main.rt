@@ -1,5 +1,7 @@
 // The regroup program: the text on standard input is loaded and its choices are regrouped, and the lines go to standard output. One byte more than a text may
 // have is read, so that a longer one is seen; what stands behind that byte changes nothing and is not read.
+#![tactic(auto)]
+
 use tables::Program;
 use telling::OUTPUT;
 

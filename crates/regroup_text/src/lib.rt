@@ -1,5 +1,7 @@
 // THE REGROUP PROGRAM as a function of the bytes read: the text is loaded and its choices are regrouped from the start configuration; what is written stands in
 // crates/outputs.
+#![tactic(auto)]
+
 ghost use Rattle.std.specs.Prelude.{◌≡◌, length};
 ghost use Rattle.outputs.specs.Programs.{regroup_program};
 ghost use Rattle.handed_runs.specs.HandedRuns.{fronted};

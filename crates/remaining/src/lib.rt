@@ -1,5 +1,7 @@
 // A room's row of parts, by its count in all rooms' counts: what the rules do to its head. The functions of crates/parts work on the 33 places of the room;
 // these read and store the count, too.
+#![tactic(auto)]
+
 ghost use Rattle.std.specs.Prelude.{[], ◌∷◌, ◌-◌, get_or, drop};
 ghost use Rattle.parts.specs.Parts.{Said, Any, tidied};
 ghost use Rattle.engine.specs.Holding.{RowBecomes};

@@ -1,4 +1,6 @@
 // The room of a live number among the 32 rooms, and the lowest free one, whose number is 0.
+#![tactic(auto)]
+
 ghost use Rattle.rooms.specs.Places.{First};
 
 use tables::Program;

@@ -1,5 +1,7 @@
 // THE RUN BY VALUE: the program and the configuration that are handed in are tested (answer 20), then the length of the lent list (answer 3); then the
 // configuration is laid into the engine's arrays, the choices are run one by one, and it is lifted out of them.
+#![tactic(auto)]
+
 ghost use Rattle.std.specs.Prelude.{◌≡◌, length};
 ghost use Rattle.soundness.specs.Sound.{Sound};
 ghost use Rattle.programs.specs.Sizes.{CHOICES};

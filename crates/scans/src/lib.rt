@@ -1,5 +1,7 @@
 // A form scanned over a line of the text: whether the line is in the form, and the places of the values of its holes. The definitions stand in
 // crates/shapes/specs/Scan.antt and in specs/.
+#![tactic(auto)]
+
 ghost use Rattle.std.specs.Prelude.{◌≡◌, true, [], ◌∷◌, drop};
 ghost use Rattle.std.proofs.Math.Option.{none};
 ghost use Rattle.lists.specs.Lists.{is_some};
@@ -12,7 +14,7 @@ ghost use Rattle.scans.specs.Fits.{taken_at, fit_of, Fitting};
 use numerals::{Integer, Numeral};
 
 // A word and a hole of a form: where the word begins, whether it is a value for the hole, and where it ends.
-#[derive(Drop)]
+#[derive(Clone, Copy)]
 pub struct Taken {
     pub at: usize,
     pub ok: bool,
@@ -20,7 +22,7 @@ pub struct Taken {
 }
 
 // Whether a line is in a form, and the places of the values of its holes, in order.
-#[derive(Drop)]
+#[derive(Clone, Copy)]
 pub struct Fit {
     pub fits: bool,
     pub at: [usize; 5],

@@ -1,4 +1,6 @@
 // SEND: a pair is put to another machine's queue, or to one's own, and the sender moves on. Where it is refused nothing is changed.
+#![tactic(auto)]
+
 ghost use Rattle.std.specs.Prelude.{ℕ, List};
 ghost use Rattle.machines.specs.Config.{Reply};
 ghost use Rattle.sending.specs.Asked.{SendAsked, ToAsked, Sent, SentTo};

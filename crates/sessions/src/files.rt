@@ -5,7 +5,7 @@ ghost use Rattle.handed_runs.specs.HandedRuns.{fronted};
 ghost use Rattle.sessions.specs.FileName.{file_name};
 
 // What was read: how many bytes, at the front of the buffer; and whether they are the whole file.
-#[derive(Drop)]
+#[derive(Clone, Copy)]
 pub struct Held {
     pub size: usize,
     pub whole: bool,

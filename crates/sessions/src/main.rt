@@ -1,5 +1,7 @@
 // Every text of sessions/ through the two functions that the programs call: an argument is the name of a text, NAME.txt is run and regrouped, and what is
 // written is compared with NAME.run and NAME.regroup, byte for byte. A line for each file that differs or cannot be read whole, and a last line that counts.
+#![tactic(auto)]
+
 mod files;
 
 use files::read_file;
@@ -7,7 +9,7 @@ use tables::Program;
 use telling::OUTPUT;
 
 // Whether a text's run and its regrouping are as recorded.
-#[derive(Drop)]
+#[derive(Clone, Copy)]
 struct Found {
     run: bool,
     regrouping: bool,

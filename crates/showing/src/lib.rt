@@ -1,4 +1,6 @@
 // WHAT IS SHOWN OF A CONFIGURATION that is handed in: which machines live in it, and one of them. What that is stands in specs/Shown.antt. All is tested (answer 20).
+#![tactic(auto)]
+
 ghost use Rattle.std.specs.Prelude.{◌≡◌, List, ℕ, ◌≤◌};
 ghost use Rattle.lists.specs.Lists.{on_opt};
 ghost use Rattle.programs.specs.Program.{Program as Definition};
@@ -16,7 +18,7 @@ use tables::{Kind, Program};
 use values::Live;
 
 // Which machines live: how many, and their live numbers, by room; 0 in the places behind them.
-#[derive(Drop)]
+#[derive(Clone, Copy)]
 pub struct Living {
     pub answer: Answer,
     pub count: usize,
@@ -25,7 +27,7 @@ pub struct Living {
 
 // One machine: its kind, the depth of its stack and the state on top, its variables' values, the pairs that wait in its queue. Values and pairs as numbers, 0 in the
 // places behind them.
-#[derive(Drop)]
+#[derive(Clone, Copy)]
 pub struct Shown {
     pub answer: Answer,
     pub kind: Kind,

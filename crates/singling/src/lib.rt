@@ -1,5 +1,7 @@
 // ANSWER 6: no two transitions, and no two actions, for one state and event. The moves are gone through once, and each state and event that has one is
 // marked in a table of flags; specs/Singling.antt has the laws.
+#![tactic(auto)]
+
 ghost use Rattle.std.specs.Prelude.{◌≡◌, List, ℕ, ◌≤◌};
 ghost use Rattle.programs.specs.Program.{Program as Lines, Move};
 ghost use Rattle.soundness.specs.Asked.{refers, single};

@@ -1,5 +1,7 @@
 // Three of the tests of a sound program. Answer 2, as far as 20 names it: no void variable, and every list ascending. Answer 3: the sizes. Answer 9: every
 // kind has a state.
+#![tactic(auto)]
+
 ghost use Rattle.std.specs.Prelude.{◌≡◌, cond, List, map, ℕ, ◌≤◌, eqb, leb, length};
 ghost use Rattle.lists.specs.Lists.{any, up_to};
 ghost use Rattle.programs.specs.Program.{Program as Lines, variables_of as variables_of_kind};

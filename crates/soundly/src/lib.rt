@@ -1,4 +1,6 @@
 // The test of a program that is handed in (answer 20): its lists and sizes, and then the passes 4 to 9 over its lines.
+#![tactic(auto)]
+
 ghost use Rattle.std.specs.Prelude.{◌≡◌};
 ghost use Rattle.soundness.specs.Sound.{sound};
 ghost use Rattle.tables.specs.Decode.{program_of};

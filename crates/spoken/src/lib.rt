@@ -1,5 +1,7 @@
 // What a line says, by the number of its form and the places of its values (specs/Spoken.antt), and what the functions that take a line into the loader's arrays
 // share: a number of the line, the test of its own number, the kind of the line, and what such a function answers (specs/Took.antt).
+#![tactic(auto)]
+
 ghost use Rattle.std.specs.Prelude.{◌≡◌, List, ℕ, ◌<◌, min, drop};
 ghost use Rattle.lists.specs.Lists.{on_opt};
 ghost use Rattle.texts.specs.Numbers.{decimal};

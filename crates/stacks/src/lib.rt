@@ -1,5 +1,7 @@
 // The call stack of a room in the flat arrays: 8 states and 8 maps of 64 places a room, the first frame first. The frame on top is popped, put into another
 // state, or left below a frame that is called.
+#![tactic(auto)]
+
 ghost use Rattle.std.specs.Prelude.{◌≡◌, List, ℕ, ◌+◌, ◌≤◌, length, replicate};
 ghost use Rattle.rows.specs.Part.{put};
 ghost use Rattle.parts.specs.Parts.{Any};

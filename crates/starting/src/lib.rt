@@ -1,4 +1,6 @@
 // THE START: what a program begins with, one machine of the start's kind in the first room. What it is stands in specs/Started.antt.
+#![tactic(auto)]
+
 ghost use Rattle.std.specs.Prelude.{◌≡◌};
 ghost use Rattle.soundness.specs.Sound.{Sound};
 ghost use Rattle.rules.specs.Step.{start_config};
@@ -12,7 +14,7 @@ use tables::{Kind, Program};
 use values::{Live, Value};
 
 // What a program starts with: 0 and its start configuration, or 20 and the configuration of no machine.
-#[derive(Drop)]
+#[derive(Clone, Copy)]
 pub struct Started {
     pub answer: Answer,
     pub config: Config,

@@ -1,5 +1,7 @@
 // The rules of a head statement that touch only the machine itself: skip (SEQ), leave, return, assert, if and while. All tests come before the first store, so
 // that a refusal changes nothing. What each is asked and leaves stands in specs/Heading.antt and specs/Conditions.antt.
+#![tactic(auto)]
+
 ghost use Rattle.std.specs.Prelude.{◌≡◌, ℕ, ◌*◌, ◌%◌, ◌<◌};
 ghost use Rattle.programs.specs.Program.{skip, leave, assert, if, while};
 ghost use Rattle.codes.specs.Codes.{value_of};

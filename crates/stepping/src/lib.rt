@@ -1,5 +1,7 @@
 // THE STEP BY VALUE: the program and the configuration that are handed in are tested (answer 20); then the configuration is laid into the engine's arrays, the
 // one choice is run, and it is lifted out of them.
+#![tactic(auto)]
+
 ghost use Rattle.std.specs.Prelude.{◌≡◌};
 ghost use Rattle.soundness.specs.Sound.{Sound};
 ghost use Rattle.tables.specs.Decode.{program_of};

@@ -1,5 +1,7 @@
 // The rules of a head statement that store more than the row: ASSIGN a variable, RETURN what is pending. All tests come before the first
 // store, so that a refusal changes nothing. What each is asked and leaves stands in specs/Storing.antt.
+#![tactic(auto)]
+
 ghost use Rattle.std.specs.Prelude.{◌≡◌, ℕ, ◌*◌, ◌%◌, ◌<◌};
 ghost use Rattle.evaluation.specs.Evaluated.{REST, evaluated, Readable};
 ghost use Rattle.statements.specs.Heading.{PendingLeft};

@@ -1,5 +1,7 @@
 // Table K of document 01 as calls of the code, a line for each row: a value; or a step's rule with the event that `msg` is and the first events that wait; or
 // an answer; or, for K12, the regrouped list, each choice with its machine and its place in the list before.
+#![tactic(auto)]
+
 use answers::Answer;
 use configs::{Config, Room};
 use engine::Outcome;

@@ -1,8 +1,10 @@
 // What a text is loaded as: the program's tables and the choices as numbers, or an answer and a line. What each number is stands in specs/Tabled.antt.
+#![tactic(auto)]
+
 use answers::Answer;
 use tables::Program;
 
-#[derive(Drop)]
+#[derive(Clone, Copy)]
 pub struct Loaded {
     pub answer: Answer,
     // the faulty line; 0 at the answers 0, 1 and 9

@@ -1,6 +1,8 @@
 // A program as the code holds it: one array of numbers for each table. Place 0 of a table holds its count, and number n of the table stands in row n,
 // from 1. Whatever its numbers are, a table is read as specs/Decode.antt says, and an accessor answers of the table so read. It is lent the arrays that it
 // reads, and no others.
+#![tactic(auto)]
+
 ghost use Rattle.std.specs.Prelude.{◌≡◌, List, ℕ, ◌+◌, ◌-◌, ◌*◌, min, eqb};
 ghost use Rattle.lists.specs.Lists.{at, any, there};
 ghost use Rattle.values.specs.declared.Ty.TheVariants.{Void as void};
@@ -11,12 +13,12 @@ use values::Ty;
 
 // A machine kind's number: the wrapping keeps it apart from a live machine's.
 #[repr(C)]
-#[derive(Drop)]
+#[derive(Clone, Copy)]
 pub struct Kind(pub u8);
 
 // What each number means stands in specs/Decode.antt. Where several arrays are one table, the count is in place 0 of the one that names the kinds.
 #[repr(C)]
-#[derive(Drop)]
+#[derive(Clone, Copy)]
 pub struct Program {
     pub event_types: [u8; Program::EVENTS + 1],
     // how many machine kinds there are
@@ -88,7 +90,7 @@ impl Program {
 }
 
 // A statement without its init list.
-#[derive(Drop)]
+#[derive(Clone, Copy)]
 pub enum Head {
     Skip,
     // variable, expression

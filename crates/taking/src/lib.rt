@@ -2,6 +2,8 @@
 // values, and where a kind has several forms the number of the form; it is lent the arrays and numbers of its kind of line alone. It answers whether the line is
 // in range: where it is, the arrays have the line, where not, they are as they were. Besides the tables of the variables the loader has how many lines of variables
 // there are, how many of each kind, and the first whose kind is not there, from which on the tables are no longer written: specs/Variables.antt.
+#![tactic(auto)]
+
 ghost use Rattle.std.specs.Prelude.{◌≡◌, not, ◌&&◌, ◌||◌, [], ◌∷◌, ◌++◌, ℕ, ◌+◌, ◌≤◌, min, ◌<◌, eqb, ltb, length, get_or};
 ghost use Rattle.lists.specs.Lists.{there};
 ghost use Rattle.values.specs.declared.Ty.{Ty};

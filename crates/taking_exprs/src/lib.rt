@@ -1,5 +1,7 @@
 // An expression's line taken into the loader's array of expressions. A function is given the text, the number of the line's form and the places of its values, and
 // is lent the array. It answers whether the line is in range: where it is, the array has the line, where not, it is as it was.
+#![tactic(auto)]
+
 ghost use Rattle.std.specs.Prelude.{◌≡◌, Bool, ◌&&◌, [], ◌∷◌, ◌++◌, ℕ, ◌-◌, ◌≤◌, ℤ, pos, length, drop};
 ghost use Rattle.lists.specs.Lists.{on_opt};
 ghost use Rattle.values.specs.Values.{in_range};

@@ -1,4 +1,6 @@
 // One line of a text taken into the loader's arrays, where it is in range (answer 3): by its form to the function of its kind.
+#![tactic(auto)]
+
 ghost use Rattle.std.specs.Prelude.{◌+◌};
 ghost use Rattle.texts.specs.Reading.{put, ranged};
 ghost use Rattle.spoken.specs.Spoken.{line_at};

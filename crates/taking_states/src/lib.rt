@@ -1,5 +1,7 @@
 // A state's line taken into the loader's arrays of states and of the flags of their deferred events. The function is given the text and the places of the line's
 // values, and is lent the arrays. It answers whether the line is in range: where it is, the arrays have the line, where not, they are as they were.
+#![tactic(auto)]
+
 ghost use Rattle.std.specs.Prelude.{◌≡◌, true, cond, [], ◌∷◌, ◌++◌, ℕ, length, drop};
 ghost use Rattle.lists.specs.Lists.{is_some, on_opt};
 ghost use Rattle.programs.specs.Sizes.{STATES};

@@ -1,6 +1,8 @@
 // A statement's line taken into the loader's arrays of statements and of their pairs. A function is given the text, the number of the line's form and the places of
 // its values, and is lent the arrays and how many pairs there are. It answers whether the line is in range: where it is, the arrays have the line, where not, they are
 // as they were.
+#![tactic(auto)]
+
 ghost use Rattle.std.specs.Prelude.{◌≡◌, [], ◌∷◌, ◌++◌, ℕ, ◌-◌, ◌≤◌, length};
 ghost use Rattle.programs.specs.Sizes.{STMTS};
 ghost use Rattle.programs.specs.Program.{Stmt};

@@ -1,4 +1,6 @@
 // The lines of a run's steps and of a list of choices, one for each, written into a lent buffer from a place on; each function answers the place behind them.
+#![tactic(auto)]
+
 ghost use Rattle.std.specs.Prelude.{take};
 ghost use Rattle.writing.specs.Wrote.{Wrote};
 ghost use Rattle.telling.specs.Rows.{step_rows, choice_rows};

@@ -1,4 +1,6 @@
 // The expressions and the statements of a program's tables: the numbers of a row as an expression, or as a statement without its init list.
+#![tactic(auto)]
+
 ghost use Rattle.std.specs.Prelude.{◌≡◌, min};
 ghost use Rattle.lists.specs.Lists.{at};
 ghost use Rattle.programs.specs.declared.Leaf.TheVariants.{Bot as bot};

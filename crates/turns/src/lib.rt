@@ -1,5 +1,7 @@
 // What a pending raise comes to in the state on top: a step, a call, an action, or the frame is popped. It is looked up in `says`, and for want of a line of
 // the state itself in the frame's map, whose 64 places begin at b.
+#![tactic(auto)]
+
 ghost use Rattle.std.specs.Prelude.{◌≡◌, ◌≤◌, length};
 ghost use Rattle.programs.specs.Program.{Program as Lines};
 ghost use Rattle.maps.specs.Maps.{Moves, Asked, map_at};
@@ -8,7 +10,7 @@ ghost use Rattle.turns.specs.Turns.{turn_of};
 use tables::Program;
 
 // With the state that is stepped to or called, or the action.
-#[derive(Drop)]
+#[derive(Clone, Copy)]
 pub enum Turn {
     Step(u8),
     Call(u8),

@@ -1,14 +1,16 @@
 // Values, their types and the operators on them. What they mean stands in specs/Values.antt.
+#![tactic(auto)]
+
 ghost use Rattle.std.specs.Prelude.{◌≡◌, ◌+ℤ◌, ◌-ℤ◌, neg_ℤ};
 ghost use Rattle.values.specs.Values.{checked, apply1, apply2, suits};
 ghost use Rattle.values.specs.Words.{int_of};
 
 // A live machine's number: the wrapping keeps it apart from a machine kind's.
 #[repr(C)]
-#[derive(Drop)]
+#[derive(Clone, Copy)]
 pub struct Live(pub u32);
 
-#[derive(Drop)]
+#[derive(Clone, Copy)]
 pub enum Ty {
     Void,
     Bool,
@@ -17,7 +19,7 @@ pub enum Ty {
     Id,
 }
 
-#[derive(Drop)]
+#[derive(Clone, Copy)]
 pub enum Value {
     Undefined,
     Bool(bool),
@@ -26,13 +28,13 @@ pub enum Value {
     Id(Live),
 }
 
-#[derive(Drop)]
+#[derive(Clone, Copy)]
 pub enum Unary {
     Not,
     Neg,
 }
 
-#[derive(Drop)]
+#[derive(Clone, Copy)]
 pub enum Binary {
     Add,
     Sub,

@@ -1,4 +1,6 @@
 // Words and numbers written as bytes into a lent buffer, from a place on; each function answers the place behind what it wrote.
+#![tactic(auto)]
+
 ghost use Rattle.std.specs.Prelude.{[], ◌∷◌, ◌++◌};
 ghost use Rattle.texts.specs.Bytes.{LF};
 ghost use Rattle.outputs.specs.Lines.{numeral};

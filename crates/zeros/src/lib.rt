@@ -1,4 +1,6 @@
 // Whether all numbers of a run are 0: each the same loop, once a width. The loop keeps the greatest number, and has no other way out.
+#![tactic(auto)]
+
 ghost use Rattle.lists.specs.Tells.{Tells};
 ghost use Rattle.zeros.specs.Zeros.{Zeros, Run};
 
