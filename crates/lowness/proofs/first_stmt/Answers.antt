@@ -1,0 +1,25 @@
+-- `lowness::first_stmt` meets its contract: those before the one that it has come to pass.
+use Prim.Native.Nat.{◌-◌}
+use Rattle.faults.specs.First.{seek_first, seek_yes, seek_no, seek_none}
+use Rattle.lowness.specs.Low.{low_stmt}
+use native.Mathlib.Omega.{arith}
+use Rattle.lowness.proofs.first_stmt.Goals as goal
+
+pub loop-s-init : goal.loop-s-init
+loop-s-init c = seek_first
+
+pub low_stmt-requires : goal.low_stmt-requires
+low_stmt-requires c =
+    let l = c.loop-s in
+    (omega (arith, c.loop-s-test.true, c.requires.0), c.requires.1)
+
+pub returns-then-not-low_stmt : goal.returns-then-not-low_stmt
+returns-then-not-low_stmt c =
+    (seek_no c.loop-s.invariant c.loop-s-test.true c.low_stmt.ensures c.if-not-low_stmt.true, c.loop-s-test.true)
+
+pub loop-s-preserved : goal.loop-s-preserved
+loop-s-preserved c =
+    seek_yes c.loop-s.invariant c.loop-s-test.true c.low_stmt.ensures c.if-not-low_stmt.false
+
+pub returns : goal.returns
+returns c = (seek_none c.loop-s.invariant c.loop-s-test.false, omega arith)

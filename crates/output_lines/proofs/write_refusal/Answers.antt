@@ -1,0 +1,24 @@
+-- `output_lines::write_refusal` meets its contract: the answer's field, then the line's. Assumes nothing.
+use mathlib.Core.List.{[], ◌∷◌, ◌++◌}
+use Rattle.texts.specs.Bytes.{LF}
+use Rattle.outputs.specs.Lines.{field}
+use Rattle.writing.specs.Wrote.{Room, room_first, room_second, wrote_both}
+use Rattle.output_lines.proofs.write_refusal.Goals as goal
+use Rattle.output_lines.proofs.write_refusal.Goals.{After-number-number}
+
+-- the room, with the number that was worked out
+room : (c : After-number-number) → Room (field "end=" c.number-number.result ++ (field " line=" c.args.line ++ LF ∷ [])) c.args.at c.args.out.now
+room c = rw c.number-number.ensures c.requires
+
+pub write_field-second-requires : goal.write_field-second-requires
+write_field-second-requires c =
+    room_first (field "end=" c.number-number.result) (field " line=" c.args.line ++ LF ∷ []) (room (goal.at.write_field-second-requires c).After-write_field-arg-1)
+
+pub write_last-requires : goal.write_last-requires
+write_last-requires c =
+    room_second (field "end=" c.number-number.result) (field " line=" c.args.line ++ LF ∷ []) (room (goal.at.write_last-requires c).After-write_field-arg-2-1) c.write_field-second.ensures
+
+pub returns : goal.returns
+returns c =
+    rw c.number-number.ensures at
+    (wrote_both (field "end=" c.number-number.result) (field " line=" c.args.line ++ LF ∷ []) (room (goal.at.returns c).After-write_field-arg-2-1) c.write_field-second.ensures c.write_last.ensures)

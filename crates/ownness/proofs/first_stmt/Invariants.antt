@@ -1,0 +1,11 @@
+-- `ownness::first_stmt` meets its contract: those before the one that it has come to pass.
+use Prim.Native.Nat.{◌+◌, ◌-◌}
+use Rattle.faults.specs.First.{Seeking}
+use Rattle.ownness.specs.Own.{own_stmt}
+use Rattle.ownness.proofs.first_stmt.Given as goal
+
+abbrev pub invariant-loop-s : goal.invariant-loop-s
+invariant-loop-s l = Seeking (own_stmt l.served l.kinds l.variable_of l.stmts l.inits) l.n l.s
+
+abbrev pub decreases-loop-s : goal.decreases-loop-s
+decreases-loop-s l = l.n + 1 - l.s

@@ -1,0 +1,14 @@
+-- `readers::value_at` meets its contract: the part from `at` to the word's end is the word. Assumes nothing.
+use mathlib.Core.Path.{sym}
+use lib.ListN.{drop}
+use Rattle.readers.specs.Words.{word, parted, empty}
+use native.Mathlib.Omega.{arith}
+use Rattle.readers.proofs.value_at.Goals as goal
+
+pub returns-then-at-e : goal.returns-then-at-e
+returns-then-at-e c =
+    let a = c.args in parted a.s.now a.at _ c.word_end-e.ensures
+
+pub returns-else-at-e : goal.returns-else-at-e
+returns-else-at-e c =
+    let a = c.args in sym (empty (word (drop a.at a.s.now)) (omega (arith, c.word_end-e.ensures, c.if-at-e.false)))

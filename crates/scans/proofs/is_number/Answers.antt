@@ -1,0 +1,11 @@
+-- `scans::is_number` meets its contract: the code has one where the text has. Assumes nothing.
+use mathlib.Core.Path.{sym, ◌∙◌}
+use Rattle.texts.specs.Numbers.{decimal}
+use Rattle.numerals.specs.Numerals.{number_there, number_missing}
+use Rattle.scans.proofs.is_number.Goals as goal
+
+pub returns-in-Not : goal.returns-in-Not
+returns-in-Not c = (number_missing (decimal c.args.d.now) (sym c.decimal.ensures ∙ c.in-Not.is)).0
+
+pub returns-in-Number : goal.returns-in-Number
+returns-in-Number c = (number_there (decimal c.args.d.now) _ (sym c.decimal.ensures ∙ c.in-Number.is)).0

@@ -1,0 +1,34 @@
+-- `showing::gather` meets its contract: a room a turn. Assumes nothing.
+use Prim.Native.Nat.{◌-◌}
+use mathlib.Core.Path.{◌≡◌}
+use mathlib.Core.Logic.{⊎_elim}
+use native.Mathlib.Omega.{arith}
+use borrow.Author.Rules.{rules}
+use lib.ListN.{length}
+use Rattle.rows.specs.Front.{length_mapped}
+use Rattle.showing.specs.Gathering.{gathered_none, gathered_free, gathered_taken, gathered_all}
+use Rattle.showing.proofs.gather.Goals as goal
+use Rattle.showing.proofs.gather.Goals.{Start}
+
+-- a configuration has 32 rooms
+full : (s : Start) → length s.args.t1.rooms ≡ 32
+full s = search (length_mapped, rules)
+
+pub loop-k-init : goal.loop-k-init
+loop-k-init c = gathered_none c.args.t1.rooms (full (goal.at.loop-k-init c).Start)
+
+pub offset_bounds-c-k : goal.offset_bounds-c-k
+offset_bounds-c-k c = omega (arith, c.loop-k-test.true)
+
+pub bounds-c-k : goal.bounds-c-k
+bounds-c-k c = c.loop-k-test.true
+
+pub loop-k-preserved : goal.loop-k-preserved
+loop-k-preserved c =
+    ⊎_elim
+    (λ w. rw (w.1, w.2) (gathered_taken c.loop-k.invariant _ c.loop-k-test.true w.0.taken))
+    (λ w. rw (w.1, w.2) (gathered_free c.loop-k.invariant _ c.loop-k-test.true w.0.left))
+    c.if-this-ne0.branch
+
+pub returns : goal.returns
+returns c p = gathered_all c.loop-k.invariant c.loop-k-test.false p

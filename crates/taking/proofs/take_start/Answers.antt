@@ -1,0 +1,11 @@
+-- `taking::take_start` meets its contract: the kind is written in 8 bits. Assumes nothing.
+use mathlib.Core.Path.{sym, ap}
+use Prim.Native.Nat.{ℕ, ◌+◌}
+use Rattle.taking.specs.Held.{byte_written}
+use Rattle.taking.specs.Lines.{start_says}
+use Rattle.taking.proofs.take_start.Goals as goal
+
+pub returns : goal.returns
+returns c k e =
+    let a = c.args in
+    ap (λ (n : ℕ). 1 + n) (sym (byte_written (start_says a.s.now a.t2 k e) c.number_at.ensures c.byte_of.ensures))
