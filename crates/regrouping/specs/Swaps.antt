@@ -2,7 +2,7 @@
 use Prim.Native.Nat.{ℕ, zero, suc, ◌≤◌}
 use Rattle.std.specs.Prelude.{◌≡◌, ◌≢◌, ◌⊎◌, length}
 use Rattle.std.proofs.Math.Path.{refl}
-use Rattle.std.proofs.Common.{sym, ap, ◌∙◌, inl, inr, arith, eqb-true}
+use Rattle.std.proofs.Common.{sym, ap, subst, ◌∙◌, inl, inr, arith, eqb-true}
 use mathlib.Core.Bool.{Bool, true, false, not, cond, not-not}
 use mathlib.Core.List.Permᴰ
 use mathlib.Core.List.{List, [], ◌∷◌, ◌++◌, append_assoc, append-nil, Permᴰ}
@@ -152,7 +152,7 @@ module _ {E : Type 0} (own : E → ℕ) where
       where
         calm : (r : List E) → mine own k r ≡ [] → Calm a r
         calm [] e = tt
-        calm (y ∷ r) e = inr (inr (rw h.0 e))
+        calm (y ∷ r) e = inr (inr (subst (λ (n : ℕ). mine own n (y ∷ r) ≡ []) (sym h.0) e))
     tidy_tail k (a ∷ b ∷ l) r h e t = (inl (h.0 ∙ sym h.1.0), tidy_tail k (b ∷ l) r h.1 e t)
 
     -- entries of one machine, to the end

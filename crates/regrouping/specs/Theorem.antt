@@ -1,7 +1,7 @@
 -- The regrouping theorem, over any step: where every choice but perhaps the last takes a step, it is as the user asks.
 use Rattle.std.specs.Prelude.{ℕ, ◌≤◌, ◌≡◌, ◌≢◌, ◌⊎◌, Bool, true, false, eqb, length}
 use Rattle.std.proofs.Math.Path.{refl}
-use Rattle.std.proofs.Common.{sym, ap, ◌∙◌, inl, inr, arith, length-append}
+use Rattle.std.proofs.Common.{sym, ap, subst, ◌∙◌, inl, inr, arith, length-append}
 use Rattle.std.proofs.Math.Option.{Option, none, some, map, none-ne-some}
 use mathlib.Core.List.Permᴰ
 use mathlib.Core.List.{List, [], ◌∷◌, ◌++◌, cons-ne-nil, map-append}
@@ -90,7 +90,7 @@ module _ {C X R : Type 0} (step : C → X → Out C R) where
           by_kind P A B Q es ep ea eb eq (inl o) = absurd (diff (cc))
           by_kind P A B Q es ep ea eb eq (inr (inl m)) =
               inl (meets_at P A (init_of B Q) ep ea m (runs_split c d P (A ∷ init_of B Q) (rw (before_end w z P A B Q es) at h)))
-          by_kind P A B Q es ep ea eb eq (inr (inr n)) = inr (rw (← ea, ← eb, ← eq) (keep_map (λ x. eqb (own x) (own A.0)) (λ e. e.0) (B ∷ Q) ∙ ap choices n))
+          by_kind P A B Q es ep ea eb eq (inr (inr n)) = inr (subst (λ (m : X). keep (λ x. eqb (own x) (own m)) (b ∷ q) ≡ []) ea (rw (← eb, ← eq) (keep_map (λ x. eqb (own x) (own A.0)) (λ e. e.0) (B ∷ Q) ∙ ap choices n)))
 
           go : (P Q : List (X × R)) → w ++ z ∷ [] ≡ P ++ Q → choices P ≡ p → choices Q ≡ a ∷ b ∷ q →
               MeetsAt step own meets c p a ⊎ (keep (λ x. eqb (own x) (own a)) (b ∷ q) ≡ [])

@@ -37,7 +37,7 @@ returns-then-end-n c =
 
 pub place-requires : goal.place-requires
 place-requires c =
-    record { (goal.at.place-requires c).Else-n-eq0 = omega (arith, c.if-n-eq0.false); few = c.if-n-gt-CHOICES.false; room = c.if-out-n.false }
+    record { some = omega (arith, c.if-n-eq0.false); few = c.if-n-gt-CHOICES.false; room = c.if-out-n.false }
 
 pub returns : goal.returns
 returns c =

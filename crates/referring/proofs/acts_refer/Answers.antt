@@ -25,7 +25,7 @@ returns-then-not-act_refers c =
     let l = c.loop-i in
     let a = c.args in (
       omega arith,
-      λ p bodies entries exits flags n q e. sym (row_first (λ j (goal.at.returns-then-not-act_refers c).In-loop-i. act_refers p (goal.at.returns-then-not-act_refers c).In-loop-i) no_move (moves_of a.moves.now a.a a.n) l.i (omega (arith, moves_length a.moves.now a.a a.n)) (l.invariant.2 p bodies entries exits flags n q e)
+      λ p bodies entries exits flags n q e. sym (row_first (λ j t. act_refers p t) no_move (moves_of a.moves.now a.a a.n) l.i (omega (arith, moves_length a.moves.now a.a a.n)) (l.invariant.2 p bodies entries exits flags n q e)
           (tested p a.moves.now a.a a.n l.i (omega arith) (c.act_refers.ensures p bodies entries exits flags n q e) ∙ not-true _ c.if-not-act_refers.true)),
     )
 
@@ -35,7 +35,7 @@ loop-i-preserved c =
     let a = c.args in (
       omega arith,
       l.invariant.1,
-      λ p bodies entries exits flags n q e. clear_more (λ j (goal.at.loop-i-preserved c).In-loop-i. act_refers p (goal.at.loop-i-preserved c).In-loop-i) no_move (moves_of a.moves.now a.a a.n) l.i (l.invariant.2 p bodies entries exits flags n q e)
+      λ p bodies entries exits flags n q e. clear_more (λ j t. act_refers p t) no_move (moves_of a.moves.now a.a a.n) l.i (l.invariant.2 p bodies entries exits flags n q e)
           (tested p a.moves.now a.a a.n l.i (omega arith) (c.act_refers.ensures p bodies entries exits flags n q e) ∙ not-false _ c.if-not-act_refers.false),
     )
 

@@ -25,7 +25,7 @@ returns-then-not-move_refers c =
     let l = c.loop-i in
     let a = c.args in (
       omega arith,
-      λ p entries exits flags n e. sym (row_first (λ j (goal.at.returns-then-not-move_refers c).In-loop-i. move_refers p (goal.at.returns-then-not-move_refers c).In-loop-i) no_move (moves_of a.moves.now a.a a.n) l.i (omega (arith, moves_length a.moves.now a.a a.n)) (l.invariant.2 p entries exits flags n e)
+      λ p entries exits flags n e. sym (row_first (λ j t. move_refers p t) no_move (moves_of a.moves.now a.a a.n) l.i (omega (arith, moves_length a.moves.now a.a a.n)) (l.invariant.2 p entries exits flags n e)
           (tested p a.moves.now a.a a.n l.i (omega arith) (c.move_refers.ensures p entries exits flags n e) ∙ not-true _ c.if-not-move_refers.true)),
     )
 
@@ -35,7 +35,7 @@ loop-i-preserved c =
     let a = c.args in (
       omega arith,
       l.invariant.1,
-      λ p entries exits flags n e. clear_more (λ j (goal.at.loop-i-preserved c).In-loop-i. move_refers p (goal.at.loop-i-preserved c).In-loop-i) no_move (moves_of a.moves.now a.a a.n) l.i (l.invariant.2 p entries exits flags n e)
+      λ p entries exits flags n e. clear_more (λ j t. move_refers p t) no_move (moves_of a.moves.now a.a a.n) l.i (l.invariant.2 p entries exits flags n e)
           (tested p a.moves.now a.a a.n l.i (omega arith) (c.move_refers.ensures p entries exits flags n e) ∙ not-false _ c.if-not-move_refers.false),
     )
 

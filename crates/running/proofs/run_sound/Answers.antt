@@ -4,7 +4,7 @@ use Rattle.running.proofs.run_sound.Goals as goal
 
 pub run_laid-end-requires : goal.run_laid-end-requires
 run_laid-end-requires c =
-    record { (goal.at.run_laid-end-requires c).After-lay = record { sound = c.requires; sized = c.lay.ensures.sized }; room = c.whole.ensures }
+    record { laid = record { sound = c.requires; sized = c.lay.ensures.sized }; room = c.whole.ensures }
 
 pub lift-config-requires : goal.lift-config-requires
 lift-config-requires c = c.run_laid-end.ensures.sized

@@ -11,7 +11,7 @@ returns-in-Int-y c =
     ∙ rw (held c.in-Int.a c.in-Int.known_told-1-own.given.0.1, held c.in-Int-y.b c.in-Int-y.known_told-in-Int-1-own.given.0.1))
 
 pub returns-in_default-y : goal.returns-in_default-y
-returns-in_default-y c = rw (c.in-Int.is, ← no_int _ c.in_default-y.in_default-y-own.keys2)
+returns-in_default-y c = rw (c.in-Int.is, ← no_int _ c.in_default-y.not-Int)
 
 pub returns-in_default : goal.returns-in_default
-returns-in_default c = rw (← no_int _ c.in_default.in_default-own.keys2)
+returns-in_default c = rw (← no_int _ c.in_default.not-Int)

@@ -9,4 +9,4 @@ returns-in-Int c =
     rw c.in-Int.is (c.neg_int.ensures ∙ rw (held c.in-Int.a c.in-Int.known_told-1-own.given.0.1))
 
 pub returns-in_default : goal.returns-in_default
-returns-in_default c = rw (← no_int _ c.in_default.in_default-own.keys2)
+returns-in_default c = rw (← no_int _ c.in_default.not-Int)

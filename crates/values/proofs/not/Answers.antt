@@ -6,4 +6,4 @@ pub returns-in-Bool : goal.returns-in-Bool
 returns-in-Bool c = simp c.in-Bool.is
 
 pub returns-in_default : goal.returns-in_default
-returns-in_default c = rw (← no_bool _ c.in_default.in_default-own.keys2)
+returns-in_default c = rw (← no_bool _ c.in_default.not-Bool)

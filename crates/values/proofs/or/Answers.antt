@@ -6,7 +6,7 @@ pub returns-in-Bool-y : goal.returns-in-Bool-y
 returns-in-Bool-y c = simp (c.in-Bool.is, c.in-Bool-y.is)
 
 pub returns-in_default-y : goal.returns-in_default-y
-returns-in_default-y c = rw (c.in-Bool.is, ← no_bool _ c.in_default-y.in_default-y-own.keys2)
+returns-in_default-y c = rw (c.in-Bool.is, ← no_bool _ c.in_default-y.not-Bool)
 
 pub returns-in_default : goal.returns-in_default
-returns-in_default c = rw (← no_bool _ c.in_default.in_default-own.keys2)
+returns-in_default c = rw (← no_bool _ c.in_default.not-Bool)
