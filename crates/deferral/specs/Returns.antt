@@ -95,7 +95,7 @@ record Caller (i : ℕ) (c d : Config) : Type 0 where
   after : stack_of i d ≡ some (callee ∷ f ∷ γ)
 
 -- That is what the rule CALL does.
-caller : {p : Program} {c d : Config} {i w : ℕ} → Takes p c i w CALL d → Caller i c d
+caller : {p : Program} {c : Config} {i w : ℕ} {d : Config} → Takes p c i w CALL d → Caller i c d
 caller {c = c} {i = i} (Takes.CALL {m = m} {f = f} {γ = γ} b h k r) = record {
   m = m;
   found = b.found;
@@ -219,9 +219,9 @@ module _ (p : Program) (c : Config) (i w : ℕ) (m : Machine) (f : Frame) (γ : 
   }
 
 -- POP2 leaves the machine with its queue, an empty row and nothing pending.
-after-POP2 : {p : Program} {c d : Config} {i w : ℕ} (m : Machine) → Takes p c i w POP2 d → find i c.rooms ≡ some m →
+after-POP2 : {p : Program} {c : Config} {i w : ℕ} {d : Config} (m : Machine) → Takes p c i w POP2 d → find i c.rooms ≡ some m →
     (n : Machine) × (find i d.rooms ≡ some n) × (n.loc.row ≡ []) × (n.loc.pending ≡ idle) × (n.queue ≡ m.queue)
-after-POP2 {p} {c} {d} {i} m (Takes.POP2 {m = m'} {γ = γ} b) h =
+after-POP2 {p} {c} {i} m (Takes.POP2 {m = m'} {γ = γ} b) h =
     (set_local (remains p [] idle (stacked γ m'.loc)) m, find_own i (set_local _) (λ n. refl) m c.rooms h, refl, refl, refl)
 
 -- Machine i calls in c and has returned in d.

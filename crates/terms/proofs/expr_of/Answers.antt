@@ -3,6 +3,7 @@ use mathlib.Core.Path.{◌≡◌, refl, sym, ap, ◌∙◌}
 use Prim.Native.Nat.{ℕ}
 use lib.IntN.{ℤ}
 use mir.Facts.{to_z-of_z}
+use mir.Syntax.{w32}
 use Rattle.programs.specs.declared.Leaf.TheVariants.{Bot as bot, Int as int}
 use Rattle.programs.specs.declared.Expr.TheVariants.{Leaf as leaf}
 use Rattle.tables.specs.Decode.{expr_kinds, expr_of}
@@ -17,7 +18,7 @@ pub returns-in-1 : goal.returns-in-1
 unfolding expr_of
 returns-in-1 c =
     let a = c.args in
-    ap (λ (z : ℤ). leaf (int z)) (to_z-of_z (record { sfits = c.int_of.type_inv }) ∙ c.int_of.ensures) ∙ kind a.x a.a a.b c.in-1.is
+    ap (λ (z : ℤ). leaf (int z)) (to_z-of_z {w = w32} (record { sfits = c.int_of.type_inv }) ∙ c.int_of.ensures) ∙ kind a.x a.a a.b c.in-1.is
 
 pub returns-in-2 : goal.returns-in-2
 unfolding expr_of
