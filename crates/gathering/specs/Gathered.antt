@@ -1,5 +1,5 @@
 -- The lines of a text so far, the first first, and the arrays and numbers that hold them while the loader reads on.
-use Rattle.std.specs.Prelude.{ℕ, ◌+◌, List, ◌++◌, reverse}
+use Rattle.std.specs.Prelude.{ℕ, List, ◌++◌, reverse}
 use Rattle.values.specs.declared.Ty.{Ty}
 use Rattle.programs.specs.declared.Expr.{Expr}
 use Rattle.programs.specs.Program.{Variable, Stmt, Action, State, Move}

@@ -2,7 +2,7 @@
 -- lists are ascending. It is kept from line to line. Nothing here is of the document.
 use Rattle.std.specs.Prelude.{ℕ, zero, suc, ◌+◌, ◌≤◌, ◌<◌, ◌≡◌, refl, Bool, true, false, cond, ◌&&◌, List, [], ◌∷◌, ◌++◌, reverse, eqb, leb, ltb, length, replicate}
 use Rattle.std.proofs.Math.Option.{Option, none, some}
-use Rattle.std.proofs.Common.{arith, eqb-true, leb-true}
+use Rattle.std.proofs.Common.{arith, subst, sym, eqb-true, leb-true}
 use Rattle.std.proofs.lemmas.List.{length-reverse}
 use Rattle.lists.specs.Lists.{All, on_opt, keep, push, There, there}
 use Rattle.lists.specs.Tells.{both, equal, at_most_lem, less, given_is, there_is}
@@ -67,7 +67,9 @@ another_variable last machines x vs r w v =
     roomy t = (given_is (there machines x.of) (less (length (keep (is_of x.of) vs)) VARIABLES)).holds r ((there_is machines x.of).test t)
 
     go : (k : ℕ) → There machines k → (b : Bool) → eqb x.of k ≡ b → length (push b x (keep (is_of k) vs)) ≤ VARIABLES
-    go k t true e = let o = eqb-true x.of k e in rw (← o) (roomy (rw (← o) at t))
+    go k t true e =
+        let o = eqb-true x.of k e in
+        subst (λ (n : ℕ). length (keep (is_of n) vs) < VARIABLES) o (roomy (subst (λ (n : ℕ). There machines n) (sym o) t))
     go k t false e = v.few k t
 
 -- THE TABLES, after a line of the kind `last`
