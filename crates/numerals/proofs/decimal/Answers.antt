@@ -1,17 +1,16 @@
 -- `numerals::decimal` meets its contract: the bytes that are left, after the number so far, say what all of them say. Assumes nothing.
-use Prim.Native.Nat.{◌+◌, ◌-◌}
+use Prim.Native.Nat.{◌+◌}
 use mathlib.Core.Path.{sym, ap, ◌∙◌}
 use native.Mathlib.Omega.{arith}
-use borrow.Author.Tests.{not-true, not-false}
 use lib.ListN.{drop}
 use Rattle.numerals.specs.Digits.{said, said_first, said_plain, said_more, said_low, said_high, said_all}
 use Rattle.numerals.proofs.decimal.Goals as goal
 
 pub returns-then-not-plain : goal.returns-then-not-plain
-returns-then-not-plain c = sym (said_plain c.args.d.now (sym c.plain.ensures ∙ not-true _ c.if-not-plain.true))
+returns-then-not-plain c = sym (said_plain c.args.d.now (sym c.plain.ensures ∙ c.if-not-plain.true))
 
 pub loop-i-init : goal.loop-i-init
-loop-i-init c = (sym (said_first c.args.d.now (sym c.plain.ensures ∙ not-false _ c.if-not-plain.false)), omega arith)
+loop-i-init c = (sym (said_first c.args.d.now (sym c.plain.ensures ∙ c.if-not-plain.false)), omega arith)
 
 pub returns-then-b-lt48 : goal.returns-then-b-lt48
 returns-then-b-lt48 c =

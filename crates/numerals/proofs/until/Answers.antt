@@ -1,5 +1,4 @@
 -- `numerals::until` meets its contract: the loop that looks for a byte, of specs/Splits.antt. Assumes nothing.
-use Prim.Native.Nat.{◌-◌}
 use Rattle.numerals.specs.Splits.{past_none, past_more, past_found, past_all}
 use Rattle.numerals.proofs.until.Goals as goal
 

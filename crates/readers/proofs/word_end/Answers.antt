@@ -1,5 +1,4 @@
 -- `readers::word_end` meets its contract: the word from i on ends where the word from `at` on does. Assumes nothing.
-use Prim.Native.Nat.{◌-◌}
 use mathlib.Core.Path.{ap}
 use lib.ListN.{length}
 use Rattle.readers.specs.Words.{word_space, word_lf, word_on, word_out}
