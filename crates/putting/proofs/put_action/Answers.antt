@@ -23,4 +23,4 @@ pub bounds-bodies-a : goal.bounds-bodies-a
 bounds-bodies-a c = omega (arith, action_room c.requires)
 
 pub returns : goal.returns
-returns c = (refl, refl)
+returns c = record { kinds_after = refl; bodies_after = refl }

@@ -32,4 +32,4 @@ pub bounds-exits-n : goal.bounds-exits-n
 bounds-exits-n c = omega (arith, state_room c.requires)
 
 pub returns : goal.returns
-returns c = (refl, (refl, refl))
+returns c = record { kinds_after = refl; entries_after = refl; exits_after = refl }

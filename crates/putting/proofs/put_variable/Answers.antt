@@ -23,4 +23,4 @@ pub bounds-types-x : goal.bounds-types-x
 bounds-types-x c = omega (arith, variable_room c.requires)
 
 pub returns : goal.returns
-returns c = (refl, refl)
+returns c = record { kinds_after = refl; types_after = refl }
