@@ -1,6 +1,6 @@
 -- `doubling::name_pairs` meets its contract: before a turn the first j expressions are named. Assumes nothing.
 use mathlib.Core.List.{List, map}
-use Prim.Native.Nat.{ℕ, ◌-◌}
+use Prim.Native.Nat.{ℕ}
 use lib.Seq.{take_all}
 use Rattle.tables.specs.Decode.{pairs_of}
 use Rattle.tables.specs.Tables.{column_length, column_get}

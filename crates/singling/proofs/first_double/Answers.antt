@@ -1,6 +1,5 @@
 -- `singling::first_double` meets its contract: before a turn the first i moves are marked, and the first of them that doubles one is known. Assumes nothing.
 use mathlib.Core.List.{◌++◌}
-use Prim.Native.Nat.{◌-◌}
 use lib.ListN.{take}
 use Rattle.tables.specs.Decode.{moves_of}
 use Rattle.faults.specs.Faults.{joined_le}

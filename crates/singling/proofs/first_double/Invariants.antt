@@ -9,7 +9,7 @@ use Rattle.singling.specs.Singling.{Doubling}
 use Rattle.singling.proofs.first_double.Given as goal
 
 abbrev pub invariant-loop-i : goal.invariant-loop-i
-invariant-loop-i l = (l.i ≤ l.m) × (l.m ≡ min l.n (4096 - l.a)) × (l.first ≤ l.i) × ((l : List Move) → Marked l l.initial.seen → Doubling l (moves_of l.moves l.a l.n) l.i l.first l.seen)
+invariant-loop-i l = (l.i ≤ l.m) × (l.m ≡ min l.n (4096 - l.a)) × (l.first ≤ l.i) × ((k : List Move) → Marked k l.initial.seen → Doubling k (moves_of l.moves l.a l.n) l.i l.first l.seen)
 
 abbrev pub decreases-loop-i : goal.decreases-loop-i
 decreases-loop-i l = l.m - l.i
