@@ -12,13 +12,13 @@ room c = rw (c.machine_of-machine.ensures, c.bits_of-bits.ensures) c.requires
 
 pub write_field-second-requires : goal.write_field-second-requires
 write_field-second-requires c =
-    room_first (field "choice=" c.machine_of-machine.result.0) (field " bits=" c.bits_of-bits.result ++ LF ∷ []) (room (goal.at.write_field-second-requires c).After-write_field-arg-1)
+    room_first (field "choice=" c.machine_of-machine.result.0) (field " bits=" c.bits_of-bits.result ++ LF ∷ []) (room (goal.at.write_field-second-requires c).After-bits_of-bits)
 
 pub write_last-requires : goal.write_last-requires
 write_last-requires c =
-    room_second (field "choice=" c.machine_of-machine.result.0) (field " bits=" c.bits_of-bits.result ++ LF ∷ []) (room (goal.at.write_last-requires c).After-write_field-arg-2-1) c.write_field-second.ensures
+    room_second (field "choice=" c.machine_of-machine.result.0) (field " bits=" c.bits_of-bits.result ++ LF ∷ []) (room (goal.at.write_last-requires c).After-bits_of-bits) c.write_field-second.ensures
 
 pub returns : goal.returns
 returns c =
     rw (c.machine_of-machine.ensures, c.bits_of-bits.ensures) at
-    (wrote_both (field "choice=" c.machine_of-machine.result.0) (field " bits=" c.bits_of-bits.result ++ LF ∷ []) (room (goal.at.returns c).After-write_field-arg-2-1) c.write_field-second.ensures c.write_last.ensures)
+    (wrote_both (field "choice=" c.machine_of-machine.result.0) (field " bits=" c.bits_of-bits.result ++ LF ∷ []) (room (goal.at.returns c).After-bits_of-bits) c.write_field-second.ensures c.write_last.ensures)

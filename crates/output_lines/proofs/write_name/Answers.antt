@@ -1,5 +1,5 @@
 -- `output_lines::write_name` meets its contract: the name lies in the row of all names, between its two ends. Assumes nothing.
-use native.Mathlib.Omega.{arith}
+use borrow.Author.Rules.{rules}
 use Rattle.output_lines.specs.Names.{name_ordered, name_within, wrote_name}
 use Rattle.output_lines.proofs.write_name.Goals as goal
 
@@ -12,7 +12,7 @@ copy_u8-requires c = name_within c.requires
 pub overflow_add-result : goal.overflow_add-result
 overflow_add-result c =
     let room = name_within c.requires in
-    record { fits = omega (arith, room.target, c.well-formed.0.0) }
+    search rules
 
 pub returns : goal.returns
 returns c =

@@ -12,13 +12,13 @@ room c = rw c.number-number.ensures c.requires
 
 pub write_field-second-requires : goal.write_field-second-requires
 write_field-second-requires c =
-    room_first (field "end=" c.number-number.result) (field " line=" c.args.line ++ LF ∷ []) (room (goal.at.write_field-second-requires c).After-write_field-arg-1)
+    room_first (field "end=" c.number-number.result) (field " line=" c.args.line ++ LF ∷ []) (room (goal.at.write_field-second-requires c).After-number-number)
 
 pub write_last-requires : goal.write_last-requires
 write_last-requires c =
-    room_second (field "end=" c.number-number.result) (field " line=" c.args.line ++ LF ∷ []) (room (goal.at.write_last-requires c).After-write_field-arg-2-1) c.write_field-second.ensures
+    room_second (field "end=" c.number-number.result) (field " line=" c.args.line ++ LF ∷ []) (room (goal.at.write_last-requires c).After-number-number) c.write_field-second.ensures
 
 pub returns : goal.returns
 returns c =
     rw c.number-number.ensures at
-    (wrote_both (field "end=" c.number-number.result) (field " line=" c.args.line ++ LF ∷ []) (room (goal.at.returns c).After-write_field-arg-2-1) c.write_field-second.ensures c.write_last.ensures)
+    (wrote_both (field "end=" c.number-number.result) (field " line=" c.args.line ++ LF ∷ []) (room (goal.at.returns c).After-number-number) c.write_field-second.ensures c.write_last.ensures)
