@@ -1,6 +1,6 @@
 -- `index::place_all` meets its contract: after i turns the first i variables are counted and have their places. Assumes nothing.
 use mathlib.Core.Path.{◌≡◌, refl, ◌∙◌}
-use Prim.Native.Nat.{ℕ, ◌-◌, ◌≤◌, ◌<◌}
+use Prim.Native.Nat.{ℕ, ◌≤◌, ◌<◌}
 use native.Mathlib.Omega.{arith}
 use lib.ListN.{get_or, length-replicate}
 use Rattle.rows.specs.Pad.{zeros_get}

@@ -1,7 +1,5 @@
 -- `queues::holds` meets its contract: after k turns none of the first k is the number. Assumes nothing.
 use mathlib.Core.Path.{◌≡◌, sym}
-use mathlib.Core.Bool.{false}
-use Prim.Native.Nat.{◌-◌}
 use native.Mathlib.Omega.{arith}
 use borrow.Author.Rules.{rules}
 use Rattle.queues.specs.Queues.{seen_none, seen_more, seen_hit}
