@@ -1,21 +1,19 @@
 -- `living::live_machines` meets its contract: a room a turn. Assumes nothing.
-use Prim.Native.Nat.{◌-◌}
 use mathlib.Core.Path.{◌≡◌, ◌∙◌}
-use mathlib.Core.Logic.{⊎_elim}
 use native.Mathlib.Omega.{arith}
 use borrow.Author.Rules.{rules}
 use lib.ListN.{length}
 use Rattle.rows.specs.Front.{length_mapped}
 use Rattle.living.specs.Living.{living, counting_none, counting_free, counting_taken, counting_all}
 use Rattle.living.proofs.live_machines.Goals as goal
-use Rattle.living.proofs.live_machines.Goals.{Start}
+use Rattle.living.proofs.live_machines.Goals.{Start, then-room-ne0, else-room-ne0}
 
 -- a configuration has 32 rooms
-full : (s : Start) → length s.args.t1.rooms ≡ 32
+full : (s : Start) → length s.args.c.rooms ≡ 32
 full s = search (length_mapped, rules)
 
 pub loop-k-init : goal.loop-k-init
-loop-k-init c = counting_none c.args.t1.rooms (full (goal.at.loop-k-init c).Start)
+loop-k-init c = counting_none c.args.c.rooms (full (goal.at.loop-k-init c).Start)
 
 pub offset_bounds-c-k : goal.offset_bounds-c-k
 offset_bounds-c-k c = omega (arith, c.loop-k-test.true)
@@ -25,10 +23,10 @@ bounds-c-k c = c.loop-k-test.true
 
 pub loop-k-preserved : goal.loop-k-preserved
 loop-k-preserved c =
-    ⊎_elim
-    (λ w. rw w.1 (counting_taken c.loop-k.invariant _ c.loop-k-test.true w.0.taken))
-    (λ w. rw w.1 (counting_free c.loop-k.invariant _ c.loop-k-test.true w.0.left))
-    c.if-room-ne0.branch
+    elim c.if-room-ne0.branch [
+      | then-room-ne0 w ↦ rw w.n-is (counting_taken c.loop-k.invariant _ c.loop-k-test.true w.if-room-ne0.true)
+      | else-room-ne0 w ↦ rw w.n-is (counting_free c.loop-k.invariant _ c.loop-k-test.true w.if-room-ne0.false)
+    ]
 
 pub returns : goal.returns
-returns c p = counting_all c.loop-k.invariant c.loop-k-test.false ∙ living p c.args.t1
+returns c p = counting_all c.loop-k.invariant c.loop-k-test.false ∙ living p c.args.c

@@ -1,5 +1,4 @@
 -- `telling::tell_choices` meets its contract: a line a turn. Assumes nothing.
-use Prim.Native.Nat.{◌-◌}
 use Rattle.telling.specs.Turns.{choices_none, choices_length, choice_room, choices_more, choices_all}
 use Rattle.telling.proofs.tell_choices.Goals as goal
 

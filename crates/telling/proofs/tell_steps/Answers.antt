@@ -1,5 +1,4 @@
 -- `telling::tell_steps` meets its contract: a line a turn. Assumes nothing.
-use Prim.Native.Nat.{◌-◌}
 use Rattle.telling.specs.Turns.{steps_none, steps_length, step_room, steps_more, steps_all}
 use Rattle.telling.proofs.tell_steps.Goals as goal
 

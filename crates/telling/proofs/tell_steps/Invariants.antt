@@ -1,6 +1,5 @@
 -- `telling::tell_steps` meets its contract: a line a turn. Assumes nothing.
 use Prim.Native.Nat.{◌-◌}
-use borrow.Author.Rules.{rules}
 use Rattle.telling.specs.Turns.{StepsTold}
 use Rattle.telling.proofs.tell_steps.Given as goal
 
