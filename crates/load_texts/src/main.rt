@@ -2,35 +2,28 @@
 // second program answers to them (second/loads.py).
 #![tactic(auto)]
 
-// The text that argument i names; false where there is no such argument, or no such file.
-fn load_one(i: usize) -> bool {
-    let mut path = io::buffer();
-    let length = os::arg(i, &mut path);
-    if os::errno() != 0 {
-        return false;
-    }
-    let fd = os::open_read(&path[..length]);
-    if fd < 0 {
-        os::fail(&path[..length]);
-        return false;
-    }
+use std::rt::{Env, Files};
+use std::{env, fs, io};
+
+// The text that an argument names: its line. A file that cannot be opened or read is an error.
+fn load_one(rt: &(impl Files + Print), path: &str) -> io::Result<()> {
     let mut buf = [0u8; 60001];
-    let n = io::read_full(fd, &mut buf);
-    libc::close(fd);
+    let mut file = fs::open(rt, path)?;
+    let n = input::read_full(&mut file, &mut buf)?;
     let loaded = loading::load(&buf[..n]);
-    let answer = loaded.answer;
-    io::write_all(1, b"answer=");
-    io::print_decimal(1, numbers::number(answer) as u64);
-    io::write_all(1, b" line=");
-    io::print_decimal(1, loaded.line as u64);
-    io::write_all(1, b"\n");
-    true
+    let answer = numbers::number(loaded.answer);
+    let line = loaded.line;
+    println!(rt; "answer={answer} line={line}")
 }
 
-fn main() {
-    for i in 1..=1000 {
-        if !load_one(i) {
-            return;
-        }
+// The texts of up to 1,000 arguments.
+fn load_all(rt: &(impl Env + Files + Print + AllocGlobal)) -> io::Result<()> {
+    for path in env::args(rt)?.skip(1).take(1000) {
+        load_one(rt, path.as_str())?;
     }
+    Ok(())
+}
+
+fn main(rt: HostRuntime) -> io::Result<()> {
+    load_all(&rt)
 }

@@ -5,8 +5,14 @@
 mod files;
 
 use files::read_file;
+use std::io::Write;
+use std::rt::{Env, Files};
+use std::{env, io};
 use tables::Program;
 use telling::OUTPUT;
+
+// An argument that is longer than this names no text.
+const NAME: usize = 4096;
 
 // Whether a text's run and its regrouping are as recorded.
 #[derive(Clone, Copy)]
@@ -16,94 +22,98 @@ struct Found {
 }
 
 // A line about a file.
-fn tell(what: &[u8], name: &[u8], ending: &[u8]) {
-    io::write_all(1, what);
-    io::write_all(1, name);
-    io::write_all(1, ending);
-    io::write_all(1, b"\n");
+fn tell(rt: &impl Print, what: &[u8], name: &[u8], ending: &[u8]) -> io::Result<()> {
+    let mut out = io::writer(rt);
+    out.write_all(what)?;
+    out.write_all(name)?;
+    out.write_all(ending)?;
+    out.write_all(b"\n")
 }
 
 // Whether an output is what the file holds; a line where it is not.
-fn as_recorded(name: &[u8], ending: &[u8], output: &[u8]) -> bool {
+fn as_recorded(
+    rt: &(impl Files + Print),
+    name: &[u8],
+    ending: &[u8],
+    output: &[u8],
+) -> io::Result<bool> {
     let mut recorded = [0u8; OUTPUT];
-    let held = read_file(name, ending, &mut recorded);
+    let held = read_file(rt, name, ending, &mut recorded);
     if !held.whole {
-        tell(b"cannot be read: ", name, ending);
-        return false;
+        tell(rt, b"cannot be read: ", name, ending)?;
+        return Ok(false);
     }
     let size = held.size;
-    let is_same = check::same(&recorded[..size], output);
+    let is_same = &recorded[..size] == output;
     if !is_same {
-        tell(b"differs: ", name, ending);
+        tell(rt, b"differs: ", name, ending)?;
     }
-    is_same
+    Ok(is_same)
 }
 
 // The run of a text.
-fn run_as_recorded(name: &[u8], text: &[u8]) -> bool {
+fn run_as_recorded(rt: &(impl Files + Print), name: &[u8], text: &[u8]) -> io::Result<bool> {
     let mut out = [0u8; OUTPUT];
     let size = run_text::run_text(text, &mut out);
-    as_recorded(name, b".run", &out[..size])
+    as_recorded(rt, name, b".run", &out[..size])
 }
 
 // The regrouping of a text.
-fn regrouping_as_recorded(name: &[u8], text: &[u8]) -> bool {
+fn regrouping_as_recorded(rt: &(impl Files + Print), name: &[u8], text: &[u8]) -> io::Result<bool> {
     let mut out = [0u8; OUTPUT];
     let size = regroup_text::regroup_text(text, &mut out);
-    as_recorded(name, b".regroup", &out[..size])
+    as_recorded(rt, name, b".regroup", &out[..size])
 }
 
 // The text of this name, run and regrouped.
-fn compare(name: &[u8]) -> Found {
+fn compare(rt: &(impl Files + Print), name: &[u8]) -> io::Result<Found> {
     let mut text = [0u8; Program::TEXT + 1];
-    let held = read_file(name, b".txt", &mut text);
+    let held = read_file(rt, name, b".txt", &mut text);
     if !held.whole {
-        tell(b"cannot be read: ", name, b".txt");
-        return Found {
+        tell(rt, b"cannot be read: ", name, b".txt")?;
+        return Ok(Found {
             run: false,
             regrouping: false,
-        };
+        });
     }
     let size = held.size;
-    let run = run_as_recorded(name, &text[..size]);
-    let regrouping = regrouping_as_recorded(name, &text[..size]);
-    Found {
+    let run = run_as_recorded(rt, name, &text[..size])?;
+    let regrouping = regrouping_as_recorded(rt, name, &text[..size])?;
+    Ok(Found {
         run: run,
         regrouping: regrouping,
+    })
+}
+
+// The text that an argument names. An argument that is too long is the empty name.
+fn compare_argument(rt: &(impl Files + Print), argument: &str) -> io::Result<Found> {
+    let name = argument.as_bytes();
+    if NAME < name.len() {
+        return compare(rt, b"");
     }
+    compare(rt, name)
 }
 
-// The text that argument i names. An argument that is missing or too long is the empty name.
-fn compare_argument(i: usize) -> Found {
-    let mut name = io::buffer();
-    let length = os::arg(i, &mut name);
-    compare(&name[..length])
-}
-
-// The last line.
-fn tell_counts(texts: usize, runs: usize, regroupings: usize) {
-    io::print_decimal(1, texts as u64);
-    io::write_all(1, b" texts: ");
-    io::print_decimal(1, runs as u64);
-    io::write_all(1, b" runs and ");
-    io::print_decimal(1, regroupings as u64);
-    io::write_all(1, b" regroupings as recorded\n");
-}
-
-fn main() {
-    let end = os::arg_count();
-    let mut texts: usize = 0;
-    let mut runs: usize = 0;
-    let mut regroupings: usize = 0;
-    for i in 1..end {
-        let found = compare_argument(i);
-        texts += 1;
-        if found.run {
-            runs += 1;
-        }
-        if found.regrouping {
-            regroupings += 1;
+// The texts that the arguments name, and the last line.
+fn compare_all(rt: &(impl Env + Files + Print + AllocGlobal)) -> io::Result<()> {
+    let mut texts: u64 = 0;
+    let mut runs: u64 = 0;
+    let mut regroupings: u64 = 0;
+    for (i, argument) in env::args(rt)?.enumerate() {
+        if 0 < i {
+            let found = compare_argument(rt, argument.as_str())?;
+            texts = texts.saturating_add(1);
+            if found.run {
+                runs = runs.saturating_add(1);
+            }
+            if found.regrouping {
+                regroupings = regroupings.saturating_add(1);
+            }
         }
     }
-    tell_counts(texts, runs, regroupings);
+    println!(rt; "{texts} texts: {runs} runs and {regroupings} regroupings as recorded")
+}
+
+fn main(rt: HostRuntime) -> io::Result<()> {
+    compare_all(&rt)
 }

@@ -7,6 +7,7 @@ use configs::{Config, Room};
 use engine::Outcome;
 use numbers::number;
 use rules::Rule;
+use std::io;
 use tables::{Kind, Program};
 use values::{Binary, Live, Unary, Value};
 
@@ -17,93 +18,71 @@ const EVENT: u64 = 1099511627776;
 const INT_ZERO: u64 = 10737418240;
 
 // Writes a number of up to three digits.
-fn write_number(n: u64) {
+fn write_number(rt: &impl Print, n: u64) -> io::Result<()> {
     let m = n % 1000;
-    if 100 <= m {
-        io::write_all(1, &[b'0' + (m / 100) as u8]);
-    }
-    if 10 <= m {
-        io::write_all(1, &[b'0' + (m / 10 % 10) as u8]);
-    }
-    io::write_all(1, &[b'0' + (m % 10) as u8]);
+    print!(rt; "{m}")
 }
 
 // Writes a row's name.
-fn write_row(k: u64) {
-    io::write_all(1, b"K");
-    write_number(k);
-    io::write_all(1, b" ");
+fn write_row(rt: &impl Print, k: u64) -> io::Result<()> {
+    rt.print("K")?;
+    write_number(rt, k)?;
+    rt.print(" ")
 }
 
 // A row whose call gives a value.
-fn value_row(k: u64, v: Value) {
-    write_row(k);
+fn value_row(rt: &impl Print, k: u64, v: Value) -> io::Result<()> {
+    write_row(rt, k)?;
     match v {
-        Value::Undefined => {
-            io::write_all(1, b"undefined\n");
-        }
-        Value::Bool(_) => {
-            io::write_all(1, b"bool\n");
-        }
+        Value::Undefined => { rt.print("undefined\n") }
+        Value::Bool(_) => { rt.print("bool\n") }
         Value::Int(z) => {
             if z == 2147483647 {
-                io::write_all(1, b"2147483647\n");
+                rt.print("2147483647\n")
             } else {
-                io::write_all(1, b"int\n");
+                rt.print("int\n")
             }
         }
-        Value::Event(_) => {
-            io::write_all(1, b"event\n");
-        }
-        Value::Id(_) => {
-            io::write_all(1, b"id\n");
-        }
+        Value::Event(_) => { rt.print("event\n") }
+        Value::Id(_) => { rt.print("id\n") }
     }
 }
 
 // The rules that the table names.
-fn write_rule(rule: Rule) {
+fn write_rule(rt: &impl Print, rule: Rule) -> io::Result<()> {
     match rule {
-        Rule::DEQUEUE => {
-            io::write_all(1, b"DEQUEUE");
-        }
-        Rule::POP1 => {
-            io::write_all(1, b"POP1");
-        }
-        Rule::SEND => {
-            io::write_all(1, b"SEND");
-        }
-        _ => {
-            io::write_all(1, b"another rule");
-        }
+        Rule::DEQUEUE => { rt.print("DEQUEUE") }
+        Rule::POP1 => { rt.print("POP1") }
+        Rule::SEND => { rt.print("SEND") }
+        _ => { rt.print("another rule") }
     }
 }
 
 // A row whose call is a step of machine 1.
-fn step_row(k: u64, program: Program, c: Config) {
-    write_row(k);
+fn step_row(rt: &impl Print, k: u64, program: Program, c: Config) -> io::Result<()> {
+    write_row(rt, k)?;
     let s = stepping::step(program, c, Live(1), 0);
     let outcome = s.outcome;
     match outcome {
         Outcome::Took(rule) => {
-            write_rule(rule);
+            write_rule(rt, rule)?;
             let d = s.config;
             let m = d.rooms[0];
-            io::write_all(1, b" msg=");
-            write_number(m.values[17] % 4294967296);
-            io::write_all(1, b" waiting=");
-            write_number(m.waiting as u64);
-            io::write_all(1, b" first=");
-            write_number(m.pairs[0] / EVENT);
-            io::write_all(1, b" last=");
-            write_number(m.pairs[15] % EVENT % 4294967296 % 2147483648);
+            rt.print(" msg=")?;
+            write_number(rt, m.values[17] % 4294967296)?;
+            rt.print(" waiting=")?;
+            write_number(rt, m.waiting as u64)?;
+            rt.print(" first=")?;
+            write_number(rt, m.pairs[0] / EVENT)?;
+            rt.print(" last=")?;
+            write_number(rt, m.pairs[15] % EVENT % 4294967296 % 2147483648)?;
         }
         Outcome::Refused(a) => {
-            io::write_all(1, b"answer ");
-            write_number(number(a) as u64);
+            rt.print("answer ")?;
+            write_number(rt, number(a) as u64)?;
         }
     }
-    io::write_all(1, b"\n");
+    rt.print("\n")
 }
 
 // A free room.
@@ -279,52 +258,60 @@ fn two_working() -> Config {
 }
 
 // Writes a choice's machine and bits.
-fn write_choice(x: u32) {
-    io::write_all(1, b" ");
+fn write_choice(rt: &impl Print, x: u32) -> io::Result<()> {
+    rt.print(" ")?;
     let machine = choices::machine_of(x);
-    write_number(machine.0 as u64);
-    io::write_all(1, b":");
-    write_number(choices::bits_of(x) as u64);
+    write_number(rt, machine.0 as u64)?;
+    rt.print(":")?;
+    write_number(rt, choices::bits_of(x) as u64)
 }
 
 // A row whose call gives a regrouped list.
-fn regroup_row(k: u64, program: Program, c: Config) {
-    write_row(k);
+fn regroup_row(rt: &impl Print, k: u64, program: Program, c: Config) -> io::Result<()> {
+    write_row(rt, k)?;
     let list: [u32; 7] = [257, 514, 259, 516, 261, 518, 263];
     let mut out: [u32; 7] = [0; 7];
     let answer = grouping::regroup(program, c, &list, &mut out);
-    io::write_all(1, b"answer ");
-    write_number(number(answer) as u64);
-    write_choice(out[0]);
-    write_choice(out[1]);
-    write_choice(out[2]);
-    write_choice(out[3]);
-    write_choice(out[4]);
-    write_choice(out[5]);
-    write_choice(out[6]);
-    io::write_all(1, b"\n");
+    rt.print("answer ")?;
+    write_number(rt, number(answer) as u64)?;
+    write_choice(rt, out[0])?;
+    write_choice(rt, out[1])?;
+    write_choice(rt, out[2])?;
+    write_choice(rt, out[3])?;
+    write_choice(rt, out[4])?;
+    write_choice(rt, out[5])?;
+    write_choice(rt, out[6])?;
+    rt.print("\n")
 }
 
-fn main() {
+// The table, row by row.
+fn table(rt: &impl Print) -> io::Result<()> {
     value_row(
+        rt,
         1,
         values::apply2(Binary::Add, Value::Int(2147483647), Value::Int(1)),
-    );
+    )?;
     value_row(
+        rt,
         2,
         values::apply2(Binary::Add, Value::Int(2147483647), Value::Int(0)),
-    );
-    value_row(3, values::apply1(Unary::Neg, Value::Int(-2147483648)));
+    )?;
+    value_row(rt, 3, values::apply1(Unary::Neg, Value::Int(-2147483648)))?;
     value_row(
+        rt,
         4,
         values::apply2(Binary::And, Value::Bool(false), Value::Undefined),
-    );
-    value_row(5, values::apply1(Unary::Not, Value::Undefined));
-    step_row(6, deferring(), two_waiting());
-    step_row(7, stepping_on_2(), two_waiting());
-    step_row(8, program(), map_deferring(0));
-    step_row(9, program(), map_deferring(2 * EVENT));
-    step_row(10, sending(3), full_queue());
-    step_row(11, sending(99), full_queue());
-    regroup_row(12, sending(3), two_working());
+    )?;
+    value_row(rt, 5, values::apply1(Unary::Not, Value::Undefined))?;
+    step_row(rt, 6, deferring(), two_waiting())?;
+    step_row(rt, 7, stepping_on_2(), two_waiting())?;
+    step_row(rt, 8, program(), map_deferring(0))?;
+    step_row(rt, 9, program(), map_deferring(2 * EVENT))?;
+    step_row(rt, 10, sending(3), full_queue())?;
+    step_row(rt, 11, sending(99), full_queue())?;
+    regroup_row(rt, 12, sending(3), two_working())
+}
+
+fn main(rt: HostRuntime) -> io::Result<()> {
+    table(&rt)
 }

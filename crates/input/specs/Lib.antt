@@ -1,0 +1,2 @@
+-- how many bytes were read
+pub mod Counts
