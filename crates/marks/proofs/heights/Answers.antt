@@ -1,6 +1,6 @@
 -- `marks::heights` meets its contract: before the turn of statement s the lower ones have their heights, and the others 1.
 use mathlib.Core.Path.{refl, ap, ◌∙◌}
-use Prim.Native.Nat.{ℕ, ◌-◌}
+use Prim.Native.Nat.{ℕ}
 use native.Mathlib.Omega.{arith}
 use lib.ListN.{length-replicate, get_or-replicate}
 use Rattle.marks.specs.Inner.{head_parts, parts_in}

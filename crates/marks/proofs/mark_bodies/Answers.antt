@@ -1,5 +1,4 @@
 -- `marks::mark_bodies` meets its contract: before a turn the bodies of the actions behind i are marked.
-use Prim.Native.Nat.{◌-◌}
 use Rattle.marks.specs.Kinds.{bodies_none, bodies_more, bodies_done}
 use native.Mathlib.Omega.{arith}
 use Rattle.marks.proofs.mark_bodies.Goals as goal

@@ -1,5 +1,4 @@
 -- `marks::mark_ends` meets its contract: before a turn the entries and exits of the states behind i are marked.
-use Prim.Native.Nat.{◌-◌}
 use Rattle.marks.specs.Kinds.{ends_none, ends_more, ends_done}
 use native.Mathlib.Omega.{arith}
 use Rattle.marks.proofs.mark_ends.Goals as goal

@@ -14,4 +14,4 @@ pub returns-in-While : goal.returns-in-While
 returns-in-While c = sym (ap head_parts c.in-While.is)
 
 pub returns-in_default : goal.returns-in_default
-returns-in_default c = no_parts c.args.h c.in_default.in_default-own.keys4
+returns-in_default c = no_parts c.args.h c.in_default.not-Seq c.in_default.not-If c.in_default.not-While

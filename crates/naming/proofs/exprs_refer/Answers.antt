@@ -1,9 +1,8 @@
 -- `naming::exprs_refer` meets its contract: before a turn what the first i expressions name is there. Assumes nothing.
 use mathlib.Core.Path.{◌≡◌, ap, sym, ◌∙◌}
 use mathlib.Core.List.{List}
-use Prim.Native.Nat.{ℕ, ◌+◌, ◌-◌}
+use Prim.Native.Nat.{ℕ, ◌+◌}
 use lib.ListN.{length}
-use borrow.Author.Tests.{not-true, not-false}
 use Rattle.lists.specs.Lists.{at}
 use Rattle.programs.specs.declared.Leaf.TheVariants.{Bot as bot}
 use Rattle.programs.specs.declared.Expr.{Expr}
@@ -32,7 +31,7 @@ returns-then-not-expr_refers c =
       λ p v e.
           let n : length p.exprs ≡ c.expr_count-n.result = ap length e ∙ exprs_length a.exprs.now ∙ sym c.expr_count-n.ensures in
           sym (row_first (refers p).expr (leaf bot) p.exprs l.i (omega arith) (l.invariant.2 p v e)
-          (tested p a.exprs.now l.i _ e c.expr_at-x.ensures ∙ sym (c.expr_refers.ensures p v n) ∙ not-true _ c.if-not-expr_refers.true)),
+          (tested p a.exprs.now l.i _ e c.expr_at-x.ensures ∙ sym (c.expr_refers.ensures p v n) ∙ c.if-not-expr_refers.true)),
     )
 
 pub loop-i-preserved : goal.loop-i-preserved
@@ -44,7 +43,7 @@ loop-i-preserved c =
       λ p v e.
           let n : length p.exprs ≡ c.expr_count-n.result = ap length e ∙ exprs_length a.exprs.now ∙ sym c.expr_count-n.ensures in
           clear_more (refers p).expr (leaf bot) p.exprs l.i (l.invariant.2 p v e)
-          (tested p a.exprs.now l.i _ e c.expr_at-x.ensures ∙ sym (c.expr_refers.ensures p v n) ∙ not-false _ c.if-not-expr_refers.false),
+          (tested p a.exprs.now l.i _ e c.expr_at-x.ensures ∙ sym (c.expr_refers.ensures p v n) ∙ c.if-not-expr_refers.false),
     )
 
 pub returns : goal.returns

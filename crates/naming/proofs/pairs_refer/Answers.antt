@@ -4,7 +4,6 @@ use mathlib.Core.Bool.{Bool, ◌&&◌}
 use mathlib.Core.List.{List}
 use Prim.Native.Nat.{ℕ, ◌+◌, ◌-◌, ◌*◌, ◌<◌, min}
 use lib.ListN.{length, get_or}
-use borrow.Author.Tests.{not-true, not-false}
 use Rattle.lists.specs.Lists.{there}
 use Rattle.programs.specs.Program.{Program as Lines}
 use Rattle.tables.specs.Decode.{pairs_of}
@@ -29,7 +28,7 @@ returns-then-not-pair_refers c =
     let a = c.args in
     λ p v e. sym (each_fails (pair_refers p) no_pair (pairs_of a.inits.now a.i a.n) l.j (omega (arith, pairs_length a.inits.now a.i a.n))
     (tested p a.inits.now a.i a.n l.j a.variables a.exprs v e (omega arith) c.pair_refers.ensures
-    ∙ not-true _ c.if-not-pair_refers.true))
+    ∙ c.if-not-pair_refers.true))
 
 pub loop-j-preserved : goal.loop-j-preserved
 loop-j-preserved c =
@@ -39,7 +38,7 @@ loop-j-preserved c =
       l.invariant.1,
       λ p v e. passing_more (pair_refers p) no_pair (pairs_of a.inits.now a.i a.n) l.j (l.invariant.2 p v e)
           (tested p a.inits.now a.i a.n l.j a.variables a.exprs v e (omega arith) c.pair_refers.ensures
-          ∙ not-false _ c.if-not-pair_refers.false),
+          ∙ c.if-not-pair_refers.false),
     )
 
 pub returns : goal.returns

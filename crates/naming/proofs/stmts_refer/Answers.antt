@@ -1,9 +1,8 @@
 -- `naming::stmts_refer` meets its contract: before a turn what the first i statements name is there. Assumes nothing.
 use mathlib.Core.Path.{◌≡◌, ap, sym, ◌∙◌}
 use mathlib.Core.List.{List}
-use Prim.Native.Nat.{ℕ, ◌+◌, ◌-◌}
+use Prim.Native.Nat.{ℕ, ◌+◌}
 use lib.ListN.{length}
-use borrow.Author.Tests.{not-true, not-false}
 use Rattle.lists.specs.Lists.{at}
 use Rattle.programs.specs.Program.{Program as Lines, Stmt, skip}
 use Rattle.soundness.specs.Asked.{stmt_refers, refers}
@@ -29,7 +28,7 @@ returns-then-not-stmt_refers c =
     let a = c.args in (
       omega arith,
       λ p n v e. sym (row_first (refers p).stmt skip p.stmts l.i (omega (arith, ap length e, stmts_length a.stmts.now a.inits.now, c.stmt_count-n.ensures)) (l.invariant.2 p n v e)
-          (tested p a.stmts.now a.inits.now l.i _ e c.stmt_at-h.ensures ∙ sym (c.stmt_refers.ensures p n v) ∙ not-true _ c.if-not-stmt_refers.true)),
+          (tested p a.stmts.now a.inits.now l.i _ e c.stmt_at-h.ensures ∙ sym (c.stmt_refers.ensures p n v) ∙ c.if-not-stmt_refers.true)),
     )
 
 pub loop-i-preserved : goal.loop-i-preserved
@@ -39,7 +38,7 @@ loop-i-preserved c =
       omega arith,
       omega arith,
       λ p n v e. clear_more (refers p).stmt skip p.stmts l.i (l.invariant.2 p n v e)
-          (tested p a.stmts.now a.inits.now l.i _ e c.stmt_at-h.ensures ∙ sym (c.stmt_refers.ensures p n v) ∙ not-false _ c.if-not-stmt_refers.false),
+          (tested p a.stmts.now a.inits.now l.i _ e c.stmt_at-h.ensures ∙ sym (c.stmt_refers.ensures p n v) ∙ c.if-not-stmt_refers.false),
     )
 
 pub returns : goal.returns

@@ -1,7 +1,7 @@
 -- `naming::variables_refer` meets its contract: before a turn the first i variables are of kinds that are there. Assumes nothing.
 use mathlib.Core.Path.{◌≡◌, ap, sym, ◌∙◌}
 use mathlib.Core.List.{List}
-use Prim.Native.Nat.{ℕ, ◌+◌, ◌-◌}
+use Prim.Native.Nat.{ℕ, ◌+◌}
 use lib.ListN.{length}
 use Rattle.lists.specs.Lists.{at, there}
 use Rattle.programs.specs.Program.{Program as Lines}
@@ -9,7 +9,6 @@ use Rattle.soundness.specs.Asked.{refers}
 use Rattle.tables.specs.Decode.{no_variable, variables_of}
 use Rattle.tables.specs.Tables.{variables_length}
 use Rattle.faults.specs.Faults.{clear_none, clear_more, rows_clear, row_first}
-use borrow.Author.Tests.{not-true, not-false}
 use native.Mathlib.Omega.{arith}
 use Rattle.naming.proofs.variables_refer.Goals as goal
 
@@ -27,7 +26,7 @@ returns-then-not-there c =
     let a = c.args in (
       omega arith,
       λ p types m v. sym (row_first (refers p).variable no_variable p.variables l.i (omega (arith, ap length v, variables_length a.owners.now types, c.variable_count-n.ensures)) (l.invariant.2 p types m v)
-          (tested p a.owners.now types a.kinds l.i _ m v (c.variable_kind-k.ensures types) ∙ sym c.there.ensures ∙ not-true _ c.if-not-there.true)),
+          (tested p a.owners.now types a.kinds l.i _ m v (c.variable_kind-k.ensures types) ∙ sym c.there.ensures ∙ c.if-not-there.true)),
     )
 
 pub loop-i-preserved : goal.loop-i-preserved
@@ -37,7 +36,7 @@ loop-i-preserved c =
       omega arith,
       omega arith,
       λ p types m v. clear_more (refers p).variable no_variable p.variables l.i (l.invariant.2 p types m v)
-          (tested p a.owners.now types a.kinds l.i _ m v (c.variable_kind-k.ensures types) ∙ sym c.there.ensures ∙ not-false _ c.if-not-there.false),
+          (tested p a.owners.now types a.kinds l.i _ m v (c.variable_kind-k.ensures types) ∙ sym c.there.ensures ∙ c.if-not-there.false),
     )
 
 pub returns : goal.returns

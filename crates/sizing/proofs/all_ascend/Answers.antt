@@ -2,8 +2,8 @@
 use mathlib.Core.Path.{◌≡◌, ap, sym, ◌∙◌}
 use mathlib.Core.Bool.{Bool}
 use mathlib.Core.List.{List, map}
-use Prim.Native.Nat.{ℕ, ◌+◌, ◌-◌}
-use borrow.Author.Tests.{ne_eqb, not-true, not-false}
+use Prim.Native.Nat.{ℕ, ◌+◌}
+use borrow.Author.Tests.{ne_eqb}
 use lib.ListN.{length}
 use Rattle.lists.specs.Lists.{at}
 use Rattle.programs.specs.Program.{Program as Lines, Stmt, skip}
@@ -29,7 +29,7 @@ returns-then-not-stmt_ascends c p e =
     let l = c.loop-i in
     let a = c.args in
     sym (rw (row_first orderly.stmt skip p.stmts l.i (omega (arith, ap length e, stmts_length a.stmts.now a.inits.now, c.stmt_count-n.ensures)) (l.invariant.2 p e)
-    (tested p a.stmts.now a.inits.now l.i _ e c.stmt_at-h.ensures c.stmt_ascends.ensures ∙ not-true _ c.if-not-stmt_ascends.true)) (ne_eqb (l.i + 1) 0 (λ z. omega arith)))
+    (tested p a.stmts.now a.inits.now l.i _ e c.stmt_at-h.ensures c.stmt_ascends.ensures ∙ c.if-not-stmt_ascends.true)) (ne_eqb (l.i + 1) 0 (λ z. omega arith)))
 
 pub loop-i-preserved : goal.loop-i-preserved
 loop-i-preserved c =
@@ -38,7 +38,7 @@ loop-i-preserved c =
       omega arith,
       omega arith,
       λ p e. clear_more orderly.stmt skip p.stmts l.i (l.invariant.2 p e)
-          (tested p a.stmts.now a.inits.now l.i _ e c.stmt_at-h.ensures c.stmt_ascends.ensures ∙ not-false _ c.if-not-stmt_ascends.false),
+          (tested p a.stmts.now a.inits.now l.i _ e c.stmt_at-h.ensures c.stmt_ascends.ensures ∙ c.if-not-stmt_ascends.false),
     )
 
 pub returns : goal.returns

@@ -1,12 +1,11 @@
 -- `sizing::kinds_fit` meets its contract: before a turn none of the first k kinds has too many variables. Assumes nothing.
 use mathlib.Core.Path.{◌≡◌, refl, sym}
-use mathlib.Core.Bool.{Bool, true}
-use Prim.Native.Nat.{ℕ, ◌-◌}
+use mathlib.Core.Bool.{Bool}
+use Prim.Native.Nat.{ℕ}
 use borrow.Author.Tests.{le-leb, lt-leb}
 use lib.Dec.{leb}
 use lib.ListN.{length}
 use Rattle.programs.specs.Program.{Program as Lines, variables_of as variables_of_kind}
-use Rattle.tables.specs.Decode.{variables_of}
 use Rattle.sizing.specs.Upward.{up_more, up_fails}
 use native.Mathlib.Omega.{arith}
 use Rattle.sizing.proofs.kinds_fit.Goals as goal

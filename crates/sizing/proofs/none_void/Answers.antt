@@ -2,7 +2,7 @@
 use mathlib.Core.Path.{◌≡◌, ap, sym, ◌∙◌}
 use mathlib.Core.Bool.{Bool, not}
 use mathlib.Core.List.{List}
-use Prim.Native.Nat.{ℕ, ◌+◌, ◌-◌}
+use Prim.Native.Nat.{ℕ, ◌+◌}
 use borrow.Author.Tests.{ne_eqb}
 use lib.ListN.{length}
 use Rattle.lists.specs.Lists.{at}

@@ -1,7 +1,7 @@
 -- `sizing::pairs_ascend` meets its contract: before a turn each of the first j variables is below the next. Assumes nothing.
 use mathlib.Core.Path.{sym}
 use mathlib.Core.List.{List, map}
-use Prim.Native.Nat.{ℕ, ◌+◌, ◌-◌}
+use Prim.Native.Nat.{ℕ, ◌+◌}
 use borrow.Author.Tests.{lt-ltb, le-ltb}
 use Rattle.tables.specs.Decode.{pairs_of}
 use Rattle.tables.specs.Tables.{column_length, column_get}

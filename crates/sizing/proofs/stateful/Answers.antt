@@ -1,8 +1,7 @@
 -- `sizing::stateful` meets its contract: before a turn each of the first k kinds has a state. Assumes nothing.
 use mathlib.Core.Path.{◌≡◌, refl, sym, ◌∙◌}
-use mathlib.Core.Bool.{Bool, true}
-use Prim.Native.Nat.{ℕ, ◌-◌}
-use borrow.Author.Tests.{not-true, not-false}
+use mathlib.Core.Bool.{Bool}
+use Prim.Native.Nat.{ℕ}
 use lib.Dec.{eqb}
 use Rattle.lists.specs.Lists.{any}
 use Rattle.programs.specs.Program.{Program as Lines}
@@ -21,12 +20,12 @@ pub returns-then-not-has_state : goal.returns-then-not-has_state
 returns-then-not-has_state c p entries exits flags m e =
     let l = c.loop-k in
     let a = c.args in
-    sym (rw m (up_fails (has p) a.kinds l.k (omega arith) (sym (c.has_state.ensures p entries exits flags e) ∙ not-true _ c.if-not-has_state.true)))
+    sym (rw m (up_fails (has p) a.kinds l.k (omega arith) (sym (c.has_state.ensures p entries exits flags e) ∙ c.if-not-has_state.true)))
 
 pub loop-k-preserved : goal.loop-k-preserved
 loop-k-preserved c =
     let l = c.loop-k in
-    (omega arith, λ p entries exits flags e. up_more (has p) l.k (l.invariant.1 p entries exits flags e) (sym (c.has_state.ensures p entries exits flags e) ∙ not-false _ c.if-not-has_state.false))
+    (omega arith, λ p entries exits flags e. up_more (has p) l.k (l.invariant.1 p entries exits flags e) (sym (c.has_state.ensures p entries exits flags e) ∙ c.if-not-has_state.false))
 
 pub returns : goal.returns
 returns c p entries exits flags m e =
