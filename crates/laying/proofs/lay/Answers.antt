@@ -1,6 +1,5 @@
 -- `laying::lay` meets its contract: after k turns the first k rows are the rooms'. Assumes nothing.
 use mathlib.Core.Path.{◌≡◌}
-use Prim.Native.Nat.{◌-◌}
 use native.Mathlib.Nat.{not-suc-le-zero}
 use native.Mathlib.Omega.{arith}
 use borrow.Author.Rules.{rules}
@@ -11,7 +10,7 @@ use Rattle.laying.proofs.lay.Goals as goal
 use Rattle.laying.proofs.lay.Goals.{Start}
 
 -- a configuration has 32 rooms
-full : (s : Start) → length s.args.t1.rooms ≡ 32
+full : (s : Start) → length s.args.c.rooms ≡ 32
 full s = search (length_mapped, rules)
 
 pub loop-k-init : goal.loop-k-init
@@ -30,10 +29,10 @@ lay_room-requires c =
 pub loop-k-preserved : goal.loop-k-preserved
 loop-k-preserved c =
     let l = c.loop-k in
-    (omega (arith, c.loop-k-test.true), laid_more c.args.t1.rooms l.k _ _ c.loop-k-test.true l.invariant.1 c.lay_room.ensures)
+    (omega (arith, c.loop-k-test.true), laid_more c.args.c.rooms l.k _ _ c.loop-k-test.true l.invariant.1 c.lay_room.ensures)
 
 pub returns : goal.returns
 returns c =
     let l = c.loop-k in
     let e : l.k ≡ 32 = omega arith in
-    laid_all c.args.t1 _ (full (goal.at.returns c).Start) (rw e at l.invariant.1)
+    laid_all c.args.c _ (full (goal.at.returns c).Start) (rw e at l.invariant.1)

@@ -1,19 +1,18 @@
 -- `parts::finish` meets its contract: the head's place is zero, and a lone skip with nothing pending is no part.
 use Prim.Native.Nat.{◌-◌}
 use native.Mathlib.Omega.{arith}
-use borrow.Author.Tests.{not-true, not-false}
 use Rattle.parts.specs.Parts.{finish_gone, finish_pending, finish_many}
 use Rattle.parts.proofs.finish.Goals as goal
 
 pub returns-then-not-pending : goal.returns-then-not-pending
 returns-then-not-pending c =
     let a = c.args in
-    finish_gone a.b a.n (a.n - 1) a.parts.now c.requires.0 (omega arith) a.pending c.if-n-eq1.true (not-true a.pending c.if-not-pending.true)
+    finish_gone a.b a.n (a.n - 1) a.parts.now c.requires.0 (omega arith) a.pending c.if-n-eq1.true c.if-not-pending.true
 
 pub returns-else-not-pending : goal.returns-else-not-pending
 returns-else-not-pending c =
     let a = c.args in
-    finish_pending a.b a.n (a.n - 1) a.parts.now c.requires.0 (omega arith) a.pending (not-false a.pending c.if-not-pending.false)
+    finish_pending a.b a.n (a.n - 1) a.parts.now c.requires.0 (omega arith) a.pending c.if-not-pending.false
 
 pub returns-else-n-eq1 : goal.returns-else-n-eq1
 returns-else-n-eq1 c =

@@ -15,7 +15,7 @@ pub returns-in_default : goal.returns-in_default
 returns-in_default c =
     let l = c.loop-first in
     let a = c.args in
-    settle_done a.stmts.now a.b a.n a.parts.now l.last l.s l.parts l.invariant (ap is_seq_head (sym c.stmt_at-h.ensures) ∙ no_seq c.stmt_at-h.result c.in_default.in_default-own.keys2)
+    settle_done a.stmts.now a.b a.n a.parts.now l.last l.s l.parts l.invariant (ap is_seq_head (sym c.stmt_at-h.ensures) ∙ no_seq c.stmt_at-h.result c.in_default.not-Seq)
 
 pub bounds-parts-b-in-loop-first-2 : goal.bounds-parts-b-in-loop-first-2
 bounds-parts-b-in-loop-first-2 c =

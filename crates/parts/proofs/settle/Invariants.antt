@@ -1,5 +1,4 @@
 -- `parts::settle` meets its contract: the loop that splits, of specs/Parts.antt; the head's number falls.
-use Prim.Native.Nat.{◌-◌}
 use Rattle.parts.specs.Parts.{Settling}
 use Rattle.parts.proofs.settle.Given as goal
 
