@@ -1,5 +1,4 @@
 -- `forms::first_form` meets its contract: at each turn the first of the forms that are left is the first of all. Assumes nothing.
-use Prim.Native.Nat.{◌-◌}
 use Rattle.texts.specs.Forms.{forms}
 use Rattle.forms.specs.Trying.{turn_none, turn_all, begin_room, begin_found, begin_more}
 use Rattle.forms.specs.Recognised.{forms_sound}

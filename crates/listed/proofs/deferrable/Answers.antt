@@ -1,8 +1,7 @@
 -- `listed::deferrable` meets its contract: the events that are left can all be one exactly when all of the list can. Assumes nothing.
-use Prim.Native.Nat.{◌+◌, ◌-◌}
+use Prim.Native.Nat.{◌+◌}
 use mathlib.Core.Path.{ap, sym, ◌∙◌}
 use mathlib.Core.List.{map}
-use borrow.Author.Tests.{not-true, not-false}
 use Rattle.lists.specs.Lists.{all, there}
 use Rattle.programs.specs.Sizes.{EVENTS}
 use Rattle.texts.specs.Numbers.{numbers}
@@ -16,7 +15,7 @@ use Rattle.listed.proofs.deferrable.Goals as goal
 pub returns-then-not-numbers_ok : goal.returns-then-not-numbers_ok
 returns-then-not-numbers_ok c =
     let d = c.args.d.now in
-    sym (ap (all (there EVENTS)) (none_there (numbers d) (sym c.numbers_ok.ensures ∙ not-true _ c.if-not-numbers_ok.true)))
+    sym (ap (all (there EVENTS)) (none_there (numbers d) (sym c.numbers_ok.ensures ∙ c.if-not-numbers_ok.true)))
 
 pub returns-then-is_none : goal.returns-then-is_none
 returns-then-is_none c = rw (sym c.is_none.ensures ∙ c.if-is_none.true)
@@ -24,7 +23,7 @@ returns-then-is_none c = rw (sym c.is_none.ensures ∙ c.if-is_none.true)
 pub loop-a-init : goal.loop-a-init
 loop-a-init c =
     let d = c.args.d.now in
-    ap (all (there EVENTS)) (numbers_all d (sym c.is_none.ensures ∙ c.if-is_none.false) (sym c.numbers_ok.ensures ∙ not-false _ c.if-not-numbers_ok.false))
+    ap (all (there EVENTS)) (numbers_all d (sym c.is_none.ensures ∙ c.if-is_none.false) (sym c.numbers_ok.ensures ∙ c.if-not-numbers_ok.false))
 
 pub returns-then-n-lt1 : goal.returns-then-n-lt1
 returns-then-n-lt1 c =

@@ -1,5 +1,5 @@
 -- `listed::put_pairs` meets its contract: the loop that stores the pairs, of specs/Pool.antt. Assumes nothing.
-use Prim.Native.Nat.{◌+◌, ◌-◌, ◌<◌}
+use Prim.Native.Nat.{◌+◌, ◌<◌}
 use mathlib.Core.Path.{sym, ◌∙◌}
 use native.Mathlib.Omega.{arith}
 use Rattle.listed.specs.Pool.{pooling_none, pooling_first, pooling_pair, pooling_room, pooling_more, pooling_all}

@@ -1,5 +1,5 @@
 -- `listed::set_flags` meets its contract: the loop that sets the flags, of specs/Flags.antt. Assumes nothing.
-use Prim.Native.Nat.{◌-◌, ◌≤◌}
+use Prim.Native.Nat.{◌≤◌}
 use mathlib.Core.Path.{sym, ◌∙◌}
 use native.Mathlib.Omega.{arith}
 use Rattle.listed.specs.Flags.{flagging_none, flagging_first, flagging_event, flagging_more, flagging_all}
@@ -25,7 +25,7 @@ pub overflow_add-flags : goal.overflow_add-flags
 overflow_add-flags c = omega (arith, event (goal.at.overflow_add-flags c).After-number_at-n, c.requires.inside)
 
 pub bounds-flags-b : goal.bounds-flags-b
-bounds-flags-b c = omega (arith, event (goal.at.bounds-flags-b c).After-way_told-1, c.requires.inside)
+bounds-flags-b c = omega (arith, event (goal.at.bounds-flags-b c).After-number_at-n, c.requires.inside)
 
 pub loop-a-preserved : goal.loop-a-preserved
 loop-a-preserved c =

@@ -1,5 +1,4 @@
 -- `listings::below` meets its contract: by the lengths, and then by the first digit that differs. Assumes nothing.
-use Prim.Native.Nat.{◌-◌}
 use mathlib.Core.Path.{sym}
 use native.Mathlib.Omega.{arith}
 use Rattle.listings.specs.Order.{level_none, level_more, first_shorter, second_shorter, digit_smaller, digit_larger, digits_equal}

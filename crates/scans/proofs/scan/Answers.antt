@@ -1,5 +1,4 @@
 -- `scans::scan` meets its contract: at each turn what is still to be scanned gives what the whole form gives. Assumes nothing.
-use Prim.Native.Nat.{◌-◌}
 use mathlib.Core.Path.{refl, ap, sym, ◌∙◌}
 use borrow.Author.Rules.{rules}
 use lib.ListN.{get_or}
