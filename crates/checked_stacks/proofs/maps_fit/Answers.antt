@@ -1,7 +1,6 @@
 -- `checked_stacks::maps_fit` meets its contract: after d turns the first d maps fit. Assumes nothing.
 use mathlib.Core.Path.{◌≡◌}
 use Prim.Native.Nat.{◌+◌, ◌*◌, ◌<◌, ◌-◌}
-use borrow.Author.Tests.{not-true, not-false}
 use Rattle.lists.specs.Tells.{form, refuted, denied}
 use borrow.Author.Count.{below_more}
 use Rattle.checked_stacks.specs.CheckedStacks.{MapFits}
@@ -16,12 +15,12 @@ pub returns-then-not-map_fits : goal.returns-then-not-map_fits
 returns-then-not-map_fits c =
     let a = c.args in
     let b : c.loop-d.d < a.depth = c.loop-d-test.true in
-    refuted (λ h. denied c.map_fits.ensures (not-true _ c.if-not-map_fits.true) ((h.each c.loop-d.d b)))
+    refuted (λ h. denied c.map_fits.ensures c.if-not-map_fits.true ((h.each c.loop-d.d b)))
 
 pub loop-d-preserved : goal.loop-d-preserved
 loop-d-preserved c =
     let a = c.args in
-    let fit = c.map_fits.ensures.holds (not-false _ c.if-not-map_fits.false) in
+    let fit = c.map_fits.ensures.holds c.if-not-map_fits.false in
     (search rules, below_more (λ j. MapFits a.«action_of».now a.maps.now a.kind a.events (a.b + j * 64)) c.loop-d.d c.loop-d.invariant.1 fit)
 
 pub returns : goal.returns

@@ -1,7 +1,6 @@
 -- `checked_stacks::states_fit` meets its contract: after d turns the first d states fit. Assumes nothing.
 use mathlib.Core.Path.{◌≡◌}
 use Prim.Native.Nat.{◌+◌, ◌<◌, ◌-◌}
-use borrow.Author.Tests.{not-true, not-false}
 use lib.ListN.{get_or}
 use Rattle.lists.specs.Tells.{form, refuted, denied}
 use borrow.Author.Count.{below_more}
@@ -17,12 +16,12 @@ pub returns-then-not-state_fits : goal.returns-then-not-state_fits
 returns-then-not-state_fits c =
     let a = c.args in
     let b : c.loop-d.d < a.depth = c.loop-d-test.true in
-    refuted (λ h. denied c.state_fits.ensures (not-true _ c.if-not-state_fits.true) (rw c.index.ensures (h.each c.loop-d.d b)))
+    refuted (λ h. denied c.state_fits.ensures c.if-not-state_fits.true (rw c.index.ensures (h.each c.loop-d.d b)))
 
 pub loop-d-preserved : goal.loop-d-preserved
 loop-d-preserved c =
     let a = c.args in
-    let fit = c.state_fits.ensures.holds (not-false _ c.if-not-state_fits.false) in
+    let fit = c.state_fits.ensures.holds c.if-not-state_fits.false in
     (search rules, below_more (λ j. StateFits a.«state_of».now a.kind (get_or a.states.now (a.b + j) 0)) c.loop-d.d c.loop-d.invariant.1 (rw c.index.ensures at fit))
 
 pub returns : goal.returns

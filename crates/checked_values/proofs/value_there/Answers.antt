@@ -12,7 +12,7 @@ returns-in-Bool c = λ p q. rw c.in-Bool.is (granted tt)
 
 pub returns-in-Int : goal.returns-in-Int
 returns-in-Int c =
-    let h = holdable c.args.v c.well-formed.0 in
+    let h = holdable c.args.v c.well_formed.0 in
     λ p q. rw c.in-Int.is (granted (rw c.in-Int.is at h))
 
 pub returns-in-Event : goal.returns-in-Event
