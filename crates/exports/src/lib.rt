@@ -1,4 +1,4 @@
-// What a program in Rust or C is given of the runtime: the static library of this crate. Each function passes on what it is handed, asks nothing, and answers in numbers: those that document 01 gives the answers, and those that crates/labels gives the
+// What a program in Rust or C is given of the runtime, over the static library of crates/exports_c. Each function passes on what it is handed, asks nothing, and answers in numbers: those that document 01 gives the answers, and those that crates/labels gives the
 // rules. The configuration is held by the caller, who lends it for a step and for a run. Other functions read it: which machines live, one machine, a value, a pair.
 #![tactic(auto)]
 
@@ -156,8 +156,7 @@ fn value_numbers(v: Value) -> ValueNumbers
 }
 
 // THE LOADER.
-#[unsafe(no_mangle)]
-pub extern "C" fn namakviz_load(text: &[u8]) -> LoadNumbers
+pub fn namakviz_load(text: &[u8]) -> LoadNumbers
     ensures { result ≡ load_numbers (load_of text.now) }
 {
     let l = loading::load(text);
@@ -174,8 +173,7 @@ pub extern "C" fn namakviz_load(text: &[u8]) -> LoadNumbers
 }
 
 // THE START.
-#[unsafe(no_mangle)]
-pub extern "C" fn namakviz_start(program: Program) -> StartNumbers
+pub fn namakviz_start(program: Program) -> StartNumbers
     ensures { result ≡ start_numbers (start_of program) }
 {
     let s = starting::start(program);
@@ -188,21 +186,14 @@ pub extern "C" fn namakviz_start(program: Program) -> StartNumbers
 }
 
 // THE STEP, in the configuration that is lent.
-#[unsafe(no_mangle)]
-pub extern "C" fn namakviz_step(
-    program: &Program,
-    c: &mut Config,
-    machine: Live,
-    bits: u8,
-) -> StepNumbers
+pub fn namakviz_step(program: &Program, c: &mut Config, machine: Live, bits: u8) -> StepNumbers
     ensures { (result ≡ step_numbers (step_of program.now c.old machine bits).outcome) × (c.new ≡ (step_of program.now c.old machine bits).config) }
 {
     step_numbers(lent::step_in(program, c, machine, bits))
 }
 
 // THE RUN, in the configuration that is lent; the numbers of its rules are written from the front of the row.
-#[unsafe(no_mangle)]
-pub extern "C" fn namakviz_run(
+pub fn namakviz_run(
     program: &Program,
     c: &mut Config,
     choices: &[u32],
@@ -214,21 +205,14 @@ pub extern "C" fn namakviz_run(
 }
 
 // THE REGROUPER: its answer; at 0 the list is written from the front of `out`, else nothing is written.
-#[unsafe(no_mangle)]
-pub extern "C" fn namakviz_regroup(
-    program: Program,
-    c: Config,
-    choices: &[u32],
-    out: &mut [u32],
-) -> u8
+pub fn namakviz_regroup(program: Program, c: Config, choices: &[u32], out: &mut [u32]) -> u8
     ensures { (result ≡ number (regroup_of program c choices.now (length out.old)).answer) × (out.new ≡ fronted (numbers_of (regroup_of program c choices.now (length out.old))) out.old) }
 {
     numbers::number(grouping::regroup(program, c, choices, out))
 }
 
 // THE TEST of what is handed in: 0, or 20.
-#[unsafe(no_mangle)]
-pub extern "C" fn namakviz_fit(program: Program, c: Config) -> u8
+pub fn namakviz_fit(program: Program, c: Config) -> u8
     ensures { result ≡ fit_number (fit program c) }
 {
     if fitting::fit(program, c) {
@@ -238,8 +222,7 @@ pub extern "C" fn namakviz_fit(program: Program, c: Config) -> u8
 }
 
 // THE MACHINES THAT LIVE.
-#[unsafe(no_mangle)]
-pub extern "C" fn namakviz_live(program: Program, c: Config) -> LiveNumbers
+pub fn namakviz_live(program: Program, c: Config) -> LiveNumbers
     ensures { result ≡ living_numbers (live_of program c) }
 {
     let living = showing::live(program, c);
@@ -253,8 +236,7 @@ pub extern "C" fn namakviz_live(program: Program, c: Config) -> LiveNumbers
 }
 
 // ONE MACHINE.
-#[unsafe(no_mangle)]
-pub extern "C" fn namakviz_machine(program: Program, c: Config, machine: Live) -> MachineNumbers
+pub fn namakviz_machine(program: Program, c: Config, machine: Live) -> MachineNumbers
     ensures { result ≡ machine_numbers (shown_of program c machine) }
 {
     let m = showing::look(program, c, machine);
@@ -275,16 +257,14 @@ pub extern "C" fn namakviz_machine(program: Program, c: Config, machine: Live) -
 }
 
 // THE VALUE that a number is: any number is one.
-#[unsafe(no_mangle)]
-pub extern "C" fn namakviz_value(x: u64) -> ValueNumbers
+pub fn namakviz_value(x: u64) -> ValueNumbers
     ensures { result ≡ value_numbers (value_of x) }
 {
     value_numbers(codes::value_of(x))
 }
 
 // THE PAIR that a number is: any number is one.
-#[unsafe(no_mangle)]
-pub extern "C" fn namakviz_pair(x: u64) -> PairNumbers
+pub fn namakviz_pair(x: u64) -> PairNumbers
     ensures { result ≡ pair_numbers x }
 {
     PairNumbers {
