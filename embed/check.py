@@ -1,7 +1,7 @@
 #!/usr/bin/env python3
 """Checks the C header and the Rust crate against the crates that they are written from, and both examples against their recorded output.
 
-    rt staticlib exports
+    ./namakviz library
     python3 embed/check.py
 
 Sizes, answers, rules, structs and functions are read from the sources in crates/; a program in C and one in Rust, made here, say
@@ -61,12 +61,12 @@ class Crates:
         self.sizes: Dict[str, int] = {}
         for name, value in re.findall(r"pub const (\w+): usize = ([^;]+);", tables):
             self.sizes[name] = self.number(value)
-        self.wrapped = dict(re.findall(r"#\[repr\(C\)\]\npub struct (\w+)\(pub (\w+)\);", sources))
+        self.wrapped = dict(re.findall(r"#\[repr\(C\)\]\n#\[derive\([^)]*\)\]\npub struct (\w+)\(pub (\w+)\);", sources))
         self.structs: Dict[str, Dict[str, Type]] = {}
-        for name, body in re.findall(r"#\[repr\(C\)\]\npub struct (\w+) \{\n(.*?)^\}", sources, re.DOTALL | re.MULTILINE):
+        for name, body in re.findall(r"#\[repr\(C\)\]\n#\[derive\([^)]*\)\]\npub struct (\w+) \{\n(.*?)^\}", sources, re.DOTALL | re.MULTILINE):
             fields = re.findall(r"^    pub (\w+): ([^,]+),$", body, re.MULTILINE)
             self.structs[name] = {field: self.type_of(written) for field, written in fields}
-        exported = re.findall(r'pub extern "C" fn (\w+)\((.*?)\) -> (\w+)', self.source("exports"), re.DOTALL)
+        exported = re.findall(r'pub extern "C" fn (\w+)\((.*?)\) -> (\w+)', self.source("exports_c"), re.DOTALL)
         self.functions = {name: Function(types_of(parameters), result) for name, parameters, result in exported}
         self.answers = dict(re.findall(r"Answer::(\w+) => (\d+),", self.source("numbers")))
         self.words = dict(re.findall(r"^## (\d+): (.*)$", (ROOT / "docs" / "ANSWERS.md").read_text("utf-8"), re.MULTILINE))
@@ -286,7 +286,7 @@ def run_example(name: str, program: Path) -> None:
 
 def check() -> None:
     if not LIBRARY.is_file():
-        raise Stopped("target/staticlib/libexports.a is not there: run 'rt staticlib exports'")
+        raise Stopped("target/staticlib/libexports.a is not there: run './namakviz library'")
     BUILT.mkdir(parents=True, exist_ok=True)
     crates = Crates()
     wanted = crates.facts()

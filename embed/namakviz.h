@@ -1,6 +1,6 @@
 /* Namakviz, the proved runtime for controllers written in P, for a program in C (C99, x86-64 Linux).
  *
- *     rt staticlib exports                makes target/staticlib/libexports.a
+ *     ./namakviz library                  makes target/staticlib/libexports.a
  *     gcc ... -Iembed controller.c target/staticlib/libexports.a
  *
  * A controller loads a text once, starts, and then lends its configuration for each step. embed/examples/override.c is one.

@@ -4,7 +4,7 @@
     python3 second/listed.py            sessions/ against the crate's data/, args and stdout
     python3 second/listed.py --write    writes args and stdout
 
-sessions/ is the crate's data/, by a link. `args` has the name of each text once, in their order; `stdout` has the line
+sessions/ and the crate's data/ hold the same files. `args` has the name of each text once, in their order; `stdout` has the line
 that counts them, all as recorded. The exit status is 0 only if there is a text and all is so.
 """
 
@@ -32,8 +32,12 @@ def wanted() -> Dict[Path, str]:
 
 def faults() -> Iterator[str]:
     """What keeps a text from being run."""
-    if SESSIONS.resolve() != (CRATE / "data").resolve():
-        yield "sessions/ is not crates/sessions/data"
+    data = CRATE / "data"
+    held = {file.name for folder in (SESSIONS, data) for file in folder.iterdir()}
+    for name in sorted(held):
+        one, other = SESSIONS / name, data / name
+        if not (one.is_file() and other.is_file() and one.read_bytes() == other.read_bytes()):
+            yield f"sessions/{name} and crates/sessions/data/{name} are not the same file"
     for file, content in wanted().items():
         if not file.is_file() or file.read_text("utf-8") != content:
             yield f"{file.relative_to(ROOT)} is not of these texts: python3 second/listed.py --write writes it"

@@ -4,7 +4,7 @@
     python3 second/loads.py --count N --seed S          N generated texts, and every text of sessions/
     python3 second/loads.py --write --count N --seed S  writes N small ones of them into crates/load_texts, with the second program's answers
 
-It runs target/bin/load_texts, which `rt check load_texts` makes. The exit status is 0 only if all answers and lines agree.
+It runs crates/load_texts/out/load_texts, which `rt run` in that crate makes. The exit status is 0 only if all answers and lines agree.
 """
 
 import argparse
@@ -19,7 +19,7 @@ import generate
 import namakviz
 
 ROOT = Path(__file__).resolve().parent.parent
-PROGRAM = ROOT / "target" / "bin" / "load_texts"
+PROGRAM = ROOT / "crates" / "load_texts" / "out" / "load_texts"
 BATCH = 500  # as many texts as one call of the program is given
 SMALL = 2500  # bytes of a text that is kept in the repository
 

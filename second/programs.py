@@ -1,6 +1,6 @@
 """The run program and the regroup program, as functions from a text to what is written: the second program's, and the proved ones.
 
-The proved ones are target/bin/run_program and target/bin/regroup_program, which `rt check` makes. Each must end with
+The proved ones are target/bin/run_program and target/bin/regroup_program, which `./namakviz run` and `./namakviz regroup` make. Each must end with
 status 0 and write nothing on standard error, whatever the text.
 """
 
