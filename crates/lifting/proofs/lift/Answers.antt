@@ -1,6 +1,5 @@
 -- `lifting::lift` meets its contract: after k turns the first k rooms are those of the flat lists. Assumes nothing.
 use mathlib.Core.Path.{◌≡◌}
-use Prim.Native.Nat.{◌-◌}
 use native.Mathlib.Omega.{arith}
 use Rattle.configs.specs.Flat.{Flat, flat}
 use Rattle.lifting.specs.Lifting.{raised_first, raised_more, raised_all}

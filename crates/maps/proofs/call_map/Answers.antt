@@ -1,6 +1,6 @@
 -- `maps::call_map` meets its contract. The invariant of both loops: of the 64 places behind the caller's map the first k are stored;
 -- the second loop finds the first one's stored.
-use Prim.Native.Nat.{◌+◌, ◌-◌}
+use Prim.Native.Nat.{◌+◌}
 use mathlib.Core.Path.{◌∙◌}
 use Rattle.rows.specs.Fill.{filled_none, filled_all}
 use Rattle.maps.specs.Maps.{map_at, called, called_length, call_more, call_zero}
