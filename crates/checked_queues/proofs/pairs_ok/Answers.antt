@@ -1,7 +1,6 @@
 -- `checked_queues::pairs_ok` meets its contract: the numbers behind place k are pairs' and apart. Assumes nothing.
 use mathlib.Core.Path.{◌≡◌, sym, ◌∙◌}
 use mathlib.Core.Bool.{true≢false}
-use borrow.Author.Tests.{not-true, not-false}
 use Prim.Native.Nat.{◌+◌, ◌-◌}
 use Rattle.lists.specs.Tells.{granted, refuted}
 use Rattle.checked_queues.specs.Queues.{apart_none, apart_more, apart_pair, apart_once}
@@ -15,7 +14,7 @@ pub returns-then-not-pair_ok : goal.returns-then-not-pair_ok
 returns-then-not-pair_ok c =
     let l = c.loop-k in
     let a = c.args in
-    λ p q. refuted (λ r. true≢false (sym ((c.pair_ok.ensures p q).test (apart_pair p a.next a.b a.n (l.k - 1) l.k a.pairs.now (omega arith) (omega arith) (omega arith) r)) ∙ not-true _ c.if-not-pair_ok.true))
+    λ p q. refuted (λ r. true≢false (sym ((c.pair_ok.ensures p q).test (apart_pair p a.next a.b a.n (l.k - 1) l.k a.pairs.now (omega arith) (omega arith) (omega arith) r)) ∙ c.if-not-pair_ok.true))
 
 pub returns-then-holds : goal.returns-then-holds
 returns-then-holds c =
@@ -27,7 +26,7 @@ pub loop-k-preserved : goal.loop-k-preserved
 loop-k-preserved c =
     let l = c.loop-k in
     let a = c.args in
-    (omega arith, λ p q. apart_more p a.next a.b a.n (l.k - 1) l.k a.pairs.now (omega arith) (omega arith) (omega arith) ((c.pair_ok.ensures p q).holds (not-false _ c.if-not-pair_ok.false)) (sym c.holds.ensures ∙ c.if-holds.false) (l.invariant.1 p q))
+    (omega arith, λ p q. apart_more p a.next a.b a.n (l.k - 1) l.k a.pairs.now (omega arith) (omega arith) (omega arith) ((c.pair_ok.ensures p q).holds c.if-not-pair_ok.false) (sym c.holds.ensures ∙ c.if-holds.false) (l.invariant.1 p q))
 
 pub returns : goal.returns
 returns c =

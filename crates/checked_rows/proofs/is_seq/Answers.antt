@@ -8,4 +8,4 @@ pub returns-in-Seq : goal.returns-in-Seq
 returns-in-Seq c = sym (ap is_seq_head (sym c.stmt_at-h.ensures ∙ c.in-Seq.is))
 
 pub returns-in_default : goal.returns-in_default
-returns-in_default c = sym (ap is_seq_head (sym c.stmt_at-h.ensures) ∙ no_seq c.stmt_at-h.result c.in_default.in_default-own.keys2)
+returns-in_default c = sym (ap is_seq_head (sym c.stmt_at-h.ensures) ∙ no_seq c.stmt_at-h.result c.in_default.not-Seq)

@@ -8,4 +8,4 @@ pub returns-in-Skip : goal.returns-in-Skip
 returns-in-Skip c = sym (ap is_skip_head (sym c.stmt_at-h.ensures ∙ c.in-Skip.is))
 
 pub returns-in_default : goal.returns-in_default
-returns-in_default c = sym (ap is_skip_head (sym c.stmt_at-h.ensures) ∙ no_skip c.stmt_at-h.result c.in_default.in_default-own.keys2)
+returns-in_default c = sym (ap is_skip_head (sym c.stmt_at-h.ensures) ∙ no_skip c.stmt_at-h.result c.in_default.not-Skip)

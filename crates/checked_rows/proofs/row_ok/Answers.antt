@@ -1,6 +1,5 @@
 -- `checked_rows::row_ok` meets its contract: too many parts, zeros, the parts, the head. Assumes nothing.
 use Prim.Native.Nat.{◌*◌, ◌-◌, ◌≤◌}
-use borrow.Author.Tests.{not-true, not-false}
 use Rattle.lists.specs.Tells.{granted, refuted, denied}
 use Rattle.checked_rows.specs.CheckedRows.{one, one_small, row_told, head_told}
 use native.Mathlib.Omega.{arith}
@@ -17,7 +16,7 @@ pub returns-then-not-zero_u16 : goal.returns-then-not-zero_u16
 returns-then-not-zero_u16 c =
     let a = c.args in
     row_told a.stmts.now a.heights.now a.served.now a.parts.now a.i a.count a.kind a.pending c.requires
-    (refuted (λ h. denied c.zero_u16.ensures (not-true _ c.if-not-zero_u16.true) h.behind))
+    (refuted (λ h. denied c.zero_u16.ensures c.if-not-zero_u16.true h.behind))
 
 pub returns-then-count-eq0 : goal.returns-then-count-eq0
 returns-then-count-eq0 c =
@@ -25,7 +24,7 @@ returns-then-count-eq0 c =
     row_told a.stmts.now a.heights.now a.served.now a.parts.now a.i a.count a.kind a.pending c.requires
     (granted (record {
       few = omega arith;
-      behind = c.zero_u16.ensures.holds (not-false _ c.if-not-zero_u16.false);
+      behind = c.zero_u16.ensures.holds c.if-not-zero_u16.false;
       each = λ j l. absurd (omega arith);
       head = λ l e. absurd (omega arith);
     }))
@@ -39,13 +38,13 @@ pub returns-then-not-parts_fit : goal.returns-then-not-parts_fit
 returns-then-not-parts_fit c =
     let a = c.args in
     row_told a.stmts.now a.heights.now a.served.now a.parts.now a.i a.count a.kind a.pending c.requires
-    (refuted (λ h. denied c.parts_fit.ensures (not-true _ c.if-not-parts_fit.true) (rw (c.stmt_count-n.ensures, c.index.ensures, c.counted.ensures) h.each)))
+    (refuted (λ h. denied c.parts_fit.ensures c.if-not-parts_fit.true (rw (c.stmt_count-n.ensures, c.index.ensures, c.counted.ensures) h.each)))
 
 pub returns : goal.returns
 returns c =
     let a = c.args in
     row_told a.stmts.now a.heights.now a.served.now a.parts.now a.i a.count a.kind a.pending c.requires
     (head_told a.stmts.now a.heights.now a.served.now a.parts.now (a.i * 33) a.count a.kind (a.count - 1) a.pending (omega arith)
-    (c.zero_u16.ensures.holds (not-false _ c.if-not-zero_u16.false))
-    (rw (c.stmt_count-n.ensures, c.index.ensures, c.counted.ensures) at (c.parts_fit.ensures.holds (not-false _ c.if-not-parts_fit.false)))
+    (c.zero_u16.ensures.holds c.if-not-zero_u16.false)
+    (rw (c.stmt_count-n.ensures, c.index.ensures, c.counted.ensures) at (c.parts_fit.ensures.holds c.if-not-parts_fit.false))
     (omega arith) (rw (c.wide.ensures, c.is_alone.ensures) at c.head_fits.ensures))

@@ -2,7 +2,6 @@
 -- Assumes nothing.
 use mathlib.Core.Path.{◌≡◌, ap, sym, ◌∙◌}
 use mathlib.Core.Bool.{true≢false}
-use borrow.Author.Tests.{not-true, not-false}
 use lib.ListN.{length}
 use Rattle.programs.specs.Program.{Program}
 use Rattle.tables.specs.Decode.{events_of, variables_of}
@@ -31,17 +30,17 @@ pub returns-then-not-variables_ok : goal.returns-then-not-variables_ok
 returns-then-not-variables_ok c =
     let a = c.args in
     let m = c.kind_count-m in
-    λ p q o. refuted (λ v. true≢false (sym ((c.variables_ok.ensures p (events-told (goal.at.returns-then-not-variables_ok c).After-event_count-n p o)).test (told_fits p a.next a.kind a.this m.result (variables_of a.kinds.now a.types.now) a.values.now a.i q (m.ensures a.types.now) c.requires.0 c.requires.1 v)) ∙ not-true _ c.if-not-variables_ok.true))
+    λ p q o. refuted (λ v. true≢false (sym ((c.variables_ok.ensures p (events-told (goal.at.returns-then-not-variables_ok c).After-event_count-n p o)).test (told_fits p a.next a.kind a.this m.result (variables_of a.kinds.now a.types.now) a.values.now a.i q (m.ensures a.types.now) c.requires.0 c.requires.1 v)) ∙ c.if-not-variables_ok.true))
 
 pub returns-then-not-zero_u64 : goal.returns-then-not-zero_u64
 returns-then-not-zero_u64 c =
     let a = c.args in
     let m = c.kind_count-m in
-    λ p q o. refuted (λ v. true≢false (sym (c.zero_u64.ensures.test (told_zeros p a.next a.kind a.this m.result (variables_of a.kinds.now a.types.now) a.values.now a.i q (m.ensures a.types.now) c.requires.0 c.requires.1 v)) ∙ not-true _ c.if-not-zero_u64.true))
+    λ p q o. refuted (λ v. true≢false (sym (c.zero_u64.ensures.test (told_zeros p a.next a.kind a.this m.result (variables_of a.kinds.now a.types.now) a.values.now a.i q (m.ensures a.types.now) c.requires.0 c.requires.1 v)) ∙ c.if-not-zero_u64.true))
 
 pub returns : goal.returns
 returns c =
     let a = c.args in
     let m = c.kind_count-m in
     λ p q o. told_own p a.next a.kind a.this m.result (variables_of a.kinds.now a.types.now) a.values.now a.i q (m.ensures a.types.now) c.requires.0 c.requires.1 c.own_ok.result c.if-m-gt-VARIABLES.false
-    ((c.variables_ok.ensures p (events-told (goal.at.returns c).After-event_count-n p o)).holds (not-false _ c.if-not-variables_ok.false)) (c.zero_u64.ensures.holds (not-false _ c.if-not-zero_u64.false)) (c.own_ok.ensures p (events-told (goal.at.returns c).After-event_count-n p o))
+    ((c.variables_ok.ensures p (events-told (goal.at.returns c).After-event_count-n p o)).holds c.if-not-variables_ok.false) (c.zero_u64.ensures.holds c.if-not-zero_u64.false) (c.own_ok.ensures p (events-told (goal.at.returns c).After-event_count-n p o))
