@@ -15,7 +15,6 @@ use Rattle.tables.specs.Decode.{program_of}
 use Rattle.configs.specs.declared.Config.{Config as Held}
 use Rattle.configs.specs.Decode.{config_of}
 use Rattle.configs.specs.Encode.{written, Zeroed}
-use Rattle.engine.specs.declared.Outcome.{Outcome}
 use Rattle.engine.specs.declared.Outcome.TheVariants.{Took, Refused}
 use Rattle.handed.specs.declared.Stepped.{Stepped}
 use Rattle.handed.specs.Zeros.{zeroed, zeroed_is}

@@ -1,5 +1,4 @@
 -- `remaining::clear_row` meets its contract: the loop has cleared the first i parts.
-use Prim.Native.Nat.{◌-◌}
 use native.Mathlib.Omega.{arith}
 use Rattle.rows.specs.Fill.{clearing_none, clearing_more, filling_all}
 use Rattle.remaining.specs.Remaining.{clear_left}

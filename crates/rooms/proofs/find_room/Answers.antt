@@ -1,5 +1,4 @@
 -- `rooms::find_room` meets its contract: none of the rooms that are passed has the number. Assumes nothing.
-use Prim.Native.Nat.{◌-◌}
 use native.Mathlib.Omega.{arith}
 use borrow.Author.Count.{below_more}
 use borrow.Author.Rules.{rules}

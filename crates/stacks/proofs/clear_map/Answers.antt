@@ -1,6 +1,5 @@
 -- `stacks::clear_map` meets its contract: the loop that clears, of crates/rows. Assumes nothing.
 use native.Mathlib.Omega.{arith}
-use Prim.Native.Nat.{◌-◌}
 use Rattle.rows.specs.Fill.{clearing_none, clearing_more, filling_all}
 use Rattle.stacks.proofs.clear_map.Goals as goal
 
