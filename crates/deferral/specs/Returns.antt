@@ -17,7 +17,7 @@ use Rattle.rules.specs.declared.Rule.{Rule}
 use Rattle.rules.specs.declared.Rule.TheVariants.{DEQUEUE, CALL, POP1, POP2}
 use Rattle.rules.specs.Step.{Outcome, taken, step}
 use Rattle.rules.specs.Rules.{Bare, Takes}
-use Rattle.rules.specs.Match.{step_is}
+use Rattle.rules.proofs.Match.{step_is}
 use Rattle.acceptance.specs.Accepted.{Accepted}
 use Rattle.machines.specs.RoomLaws.{find_own}
 use Rattle.kept.specs.Kept.{find_ok}

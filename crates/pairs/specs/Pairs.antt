@@ -18,7 +18,7 @@ use Rattle.rules.specs.declared.Rule.TheVariants.{ASSIGN, NEW, DELETE, ASSERT, S
 use Rattle.rules.specs.Act.{Act, alone, creates, deletes, sends, dequeues, refuses, does, in_state, on_stack, act}
 use Rattle.rules.specs.Step.{Outcome, step, start_config}
 use Rattle.rules.specs.Rules.{At, Takes}
-use Rattle.rules.specs.Match.{step_is}
+use Rattle.rules.proofs.Match.{step_is}
 use Rattle.soundness.specs.Sound.{Sound}
 use Rattle.acceptance.specs.Accepted.{Distinct, Accepted}
 use Rattle.kept.specs.Kept.{distinct_each}
