@@ -1,6 +1,5 @@
 -- `storing::assign_on` meets its contract: refused where the value does not suit, else stored.
 use mathlib.Core.Path.{refl}
-use borrow.Author.Tests.{not-true, not-false}
 use Rattle.statements.specs.Heading.{asked_headed}
 use Rattle.statements.specs.Conditions.{asked_readable}
 use Rattle.storing.specs.Storing.{assign_256, assign_place, assign_refused, assign_left}
@@ -11,7 +10,7 @@ pub number-v-requires : goal.number-v-requires
 number-v-requires c = (asked_readable c.requires.test, c.requires.test.bits)
 
 pub returns-then-not-suits : goal.returns-then-not-suits
-returns-then-not-suits c = λ a. assign_refused a _ c.number-v.ensures _ (rw c.wide.ensures at c.variable_type-t.ensures) _ c.value_of.ensures _ c.suits.ensures (not-true _ c.if-not-suits.true)
+returns-then-not-suits c = λ a. assign_refused a _ c.number-v.ensures _ (rw c.wide.ensures at c.variable_type-t.ensures) _ c.value_of.ensures _ c.suits.ensures c.if-not-suits.true
 
 pub bounds-places-x : goal.bounds-places-x
 bounds-places-x c = omega (arith, assign_256 c.requires)
@@ -41,4 +40,4 @@ pub finish_head-requires : goal.finish_head-requires
 finish_head-requires c = asked_headed c.requires.test.row
 
 pub returns : goal.returns
-returns c = λ a. assign_left a _ c.number-v.ensures _ (rw c.wide.ensures at c.variable_type-t.ensures) _ c.value_of.ensures _ c.suits.ensures _ c.index-j.ensures _ refl (not-false _ c.if-not-suits.false) c.finish_head.ensures
+returns c = λ a. assign_left a _ c.number-v.ensures _ (rw c.wide.ensures at c.variable_type-t.ensures) _ c.value_of.ensures _ c.suits.ensures _ c.index-j.ensures _ refl c.if-not-suits.false c.finish_head.ensures
