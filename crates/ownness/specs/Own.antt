@@ -40,15 +40,15 @@ abbrev pub own_kind : List ℕ → ℕ → ℕ → ℕ → Bool
 own_kind marks n of k = not (on marks (k * 1025) n) || eqb of k
 
 -- a variable of kind `of` in line n is of each kind that the line serves
-abbrev pub field_own : List ℕ → ℕ → ℕ → ℕ → Bool
-field_own marks kinds n of = up_to kinds (own_kind marks n of)
+abbrev pub own_at : List ℕ → ℕ → ℕ → ℕ → Bool
+own_at marks kinds n of = up_to kinds (own_kind marks n of)
 
 -- a leaf names no foreign variable
 abbrev pub own_leaf : List ℕ → ℕ → List ℕ → ℕ → Leaf → Bool
 own_leaf marks kinds variable_of n bot = true
 own_leaf marks kinds variable_of n (int_val z) = true
 own_leaf marks kinds variable_of n (bool_val b) = true
-own_leaf marks kinds variable_of n (var x) = field_own marks kinds n (kind_in variable_of x)
+own_leaf marks kinds variable_of n (var x) = own_at marks kinds n (kind_in variable_of x)
 own_leaf marks kinds variable_of n this = true
 own_leaf marks kinds variable_of n msg = true
 own_leaf marks kinds variable_of n arg = true
@@ -71,8 +71,8 @@ own_pair variable_of m xe = eqb (kind_in variable_of xe.0) m
 -- a statement names no foreign variable
 abbrev pub own_head : List ℕ → ℕ → List ℕ → List ℕ → ℕ → Head → Bool
 own_head served kinds variable_of inits n Skip = true
-own_head served kinds variable_of inits n (Assign x e) = field_own served kinds n (kind_in variable_of x)
-own_head served kinds variable_of inits n (New x m i c) = field_own served kinds n (kind_in variable_of x) && all (own_pair variable_of m.0) (pairs_of inits i c)
+own_head served kinds variable_of inits n (Assign x e) = own_at served kinds n (kind_in variable_of x)
+own_head served kinds variable_of inits n (New x m i c) = own_at served kinds n (kind_in variable_of x) && all (own_pair variable_of m.0) (pairs_of inits i c)
 own_head served kinds variable_of inits n Delete = true
 own_head served kinds variable_of inits n (Send t e a) = true
 own_head served kinds variable_of inits n (Raise e a) = true
@@ -113,7 +113,7 @@ module _ (types : List ℕ) (kinds : ℕ) (variable_of exprs stmts inits served 
 
   -- a variable in a line that serves what the marks say
   of_kinds : (served : ℕ → Bool) (l : List ℕ) (n x : ℕ) → ((k : ℕ) → 1 ≤ k → k ≤ kinds → served k ≡ on l (k * 1025) n)
-      → up_to p.machines (λ k. not (served k) || eqb (variable_at p x).of k) ≡ field_own l kinds n (kind_in variable_of x)
+      → up_to p.machines (λ k. not (served k) || eqb (variable_at p x).of k) ≡ own_at l kinds n (kind_in variable_of x)
   of_kinds served l n x f =
       rw (told.fronted.same_kinds, kind_is x)
       (up_ext (λ k. not (served k) || eqb (kind_in variable_of x) k) (own_kind l n (kind_in variable_of x)) kinds (λ k a b. rw (f k a b)))
@@ -141,7 +141,7 @@ module _ (types : List ℕ) (kinds : ℕ) (variable_of exprs stmts inits served 
   pairs_test j (xe ∷ l) = rw (kind_is xe.0, pairs_test j l)
 
   -- a variable of a statement
-  stmt_kinds : (n : ℕ) → There (count STMTS stmts) n → (x : ℕ) → up_to p.machines (λ k. not (serves p k n) || eqb (variable_at p x).of k) ≡ field_own served kinds n (kind_in variable_of x)
+  stmt_kinds : (n : ℕ) → There (count STMTS stmts) n → (x : ℕ) → up_to p.machines (λ k. not (serves p k n) || eqb (variable_at p x).of k) ≡ own_at served kinds n (kind_in variable_of x)
   stmt_kinds n b x = of_kinds (λ k. serves p k n) served n x (λ k i j. sym (says_at h k n i (omega arith) (omega (arith, b.1)) (omega (arith, b.1, told_stmts told))))
 
   -- a statement's
@@ -237,7 +237,7 @@ module _ (f : ℕ × ℕ → Bool) (inits : List ℕ) (i m : ℕ) where
       rw (p, e) at s
 
 -- a leaf that names a variable
-pub var_told : (marks : List ℕ) (kinds : ℕ) (variable_of : List ℕ) (n : ℕ) (l : Leaf) (x k : ℕ) (r : Bool) → l ≡ var x → k ≡ kind_in variable_of x → r ≡ field_own marks kinds n k
+pub var_told : (marks : List ℕ) (kinds : ℕ) (variable_of : List ℕ) (n : ℕ) (l : Leaf) (x k : ℕ) (r : Bool) → l ≡ var x → k ≡ kind_in variable_of x → r ≡ own_at marks kinds n k
     → r ≡ own_leaf marks kinds variable_of n l
 var_told marks kinds variable_of n l x k r e f h = rw (e, ← f) h
 
@@ -248,15 +248,15 @@ expr_told marks kinds variable_of exprs n x g r e f h = rw (← e, f) h
 
 module _ (served : List ℕ) (kinds : ℕ) (variable_of stmts inits : List ℕ) (n : ℕ) (t : Head) (told : t ≡ head_at stmts n) where
   -- an assignment
-  pub assign_told : (x e k : ℕ) (r : Bool) → t ≡ Assign x e → k ≡ kind_in variable_of x → r ≡ field_own served kinds n k → r ≡ own_stmt served kinds variable_of stmts inits n
+  pub assign_told : (x e k : ℕ) (r : Bool) → t ≡ Assign x e → k ≡ kind_in variable_of x → r ≡ own_at served kinds n k → r ≡ own_stmt served kinds variable_of stmts inits n
   assign_told x e k r f g h = rw (← told, f, ← g) h
 
   -- a `new` into a foreign variable
-  pub new_no : (x : ℕ) (m : Kind) (i c k : ℕ) (r : Bool) → t ≡ New x m i c → k ≡ kind_in variable_of x → r ≡ field_own served kinds n k → r ≡ false → false ≡ own_stmt served kinds variable_of stmts inits n
+  pub new_no : (x : ℕ) (m : Kind) (i c k : ℕ) (r : Bool) → t ≡ New x m i c → k ≡ kind_in variable_of x → r ≡ own_at served kinds n k → r ≡ false → false ≡ own_stmt served kinds variable_of stmts inits n
   new_no x m i c k r f g h q = rw (← told, f, ← g, ← h, q)
 
   -- and another: its init list decides
-  pub new_yes : (x : ℕ) (m : Kind) (i c k : ℕ) (r s : Bool) → t ≡ New x m i c → k ≡ kind_in variable_of x → r ≡ field_own served kinds n k → r ≡ true → s ≡ all (own_pair variable_of m.0) (pairs_of inits i c)
+  pub new_yes : (x : ℕ) (m : Kind) (i c k : ℕ) (r s : Bool) → t ≡ New x m i c → k ≡ kind_in variable_of x → r ≡ own_at served kinds n k → r ≡ true → s ≡ all (own_pair variable_of m.0) (pairs_of inits i c)
       → s ≡ own_stmt served kinds variable_of stmts inits n
   new_yes x m i c k r s f g h q j = rw (← told, f, ← g, ← h, q) j
 

@@ -1,5 +1,5 @@
 -- `expr_marks::expr_served` meets its contract: the rows of the kinds, one after the other.
-use Prim.Native.Nat.{ℕ, ◌-◌}
+use Prim.Native.Nat.{ℕ}
 use lib.ListN.{replicate, length-replicate}
 use Rattle.rows.specs.Pad.{zeros_get}
 use Rattle.expr_marks.specs.Naming.{rows_none, rows_more, named_all}

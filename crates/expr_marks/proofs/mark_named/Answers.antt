@@ -45,4 +45,4 @@ returns-in-While c =
 pub returns-in_default : goal.returns-in_default
 returns-in_default c =
     let a = c.args in
-    marks_none a.b a.n (exprs_of (stmt_of a.inits.now a.h)) _ (no_exprs a.inits.now a.h c.in_default.in_default-own.keys8)
+    marks_none a.b a.n (exprs_of (stmt_of a.inits.now a.h)) _ (no_exprs a.inits.now a.h c.in_default.not-Assign c.in_default.not-New c.in_default.not-Send c.in_default.not-Raise c.in_default.not-Assert c.in_default.not-If c.in_default.not-While)

@@ -1,5 +1,4 @@
 -- `expr_marks::mark_pairs` meets its contract: the pairs that are left give what all pairs give.
-use Prim.Native.Nat.{◌-◌}
 use Rattle.expr_marks.specs.Naming.{pairs_first, pairs_turn, pairs_done}
 use native.Mathlib.Omega.{arith}
 use Rattle.expr_marks.proofs.mark_pairs.Goals as goal

@@ -1,5 +1,4 @@
 -- `expr_marks::mark_roots` meets its contract: before a turn what the statements behind i name is marked.
-use Prim.Native.Nat.{◌-◌}
 use Rattle.expr_marks.specs.Naming.{roots_none, roots_more, roots_done}
 use native.Mathlib.Omega.{arith}
 use Rattle.expr_marks.proofs.mark_roots.Goals as goal

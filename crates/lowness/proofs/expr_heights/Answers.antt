@@ -1,6 +1,6 @@
 -- `lowness::expr_heights` meets its contract: before the turn of expression e the lower ones have their heights, and the others 1.
 use mathlib.Core.Path.{refl, ap, ◌∙◌}
-use Prim.Native.Nat.{ℕ, ◌-◌}
+use Prim.Native.Nat.{ℕ}
 use lib.ListN.{length-replicate, get_or-replicate}
 use Rattle.programs.specs.Trees.{operands}
 use Rattle.marks.specs.Inner.{operands_in}

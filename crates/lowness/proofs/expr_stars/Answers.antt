@@ -1,6 +1,6 @@
 -- `lowness::expr_stars` meets its contract: before the turn of expression e the lower ones have their stars, and the others none.
 use mathlib.Core.Path.{refl, ap, ◌∙◌}
-use Prim.Native.Nat.{ℕ, ◌-◌}
+use Prim.Native.Nat.{ℕ}
 use lib.ListN.{length-replicate}
 use Rattle.lists.specs.Lists.{at}
 use Rattle.programs.specs.declared.Leaf.TheVariants.{Bot as bot}

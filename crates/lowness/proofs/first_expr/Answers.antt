@@ -1,5 +1,4 @@
 -- `lowness::first_expr` meets its contract: those before the one that it has come to pass.
-use Prim.Native.Nat.{◌-◌}
 use Rattle.faults.specs.First.{seek_first, seek_more, seek_found, seek_none}
 use Rattle.lowness.specs.Low.{too_high, low_enough}
 use native.Mathlib.Omega.{arith}

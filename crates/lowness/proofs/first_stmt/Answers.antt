@@ -1,7 +1,5 @@
 -- `lowness::first_stmt` meets its contract: those before the one that it has come to pass.
-use Prim.Native.Nat.{◌-◌}
 use Rattle.faults.specs.First.{seek_first, seek_yes, seek_no, seek_none}
-use Rattle.lowness.specs.Low.{low_stmt}
 use native.Mathlib.Omega.{arith}
 use Rattle.lowness.proofs.first_stmt.Goals as goal
 

@@ -1,5 +1,4 @@
 -- `lowness::init_stars` meets its contract: before a turn the pairs behind j are counted.
-use Prim.Native.Nat.{◌-◌}
 use Rattle.lowness.specs.Stars.{pairs_none, pairs_more, pairs_all}
 use native.Mathlib.Omega.{arith}
 use Rattle.lowness.proofs.init_stars.Goals as goal

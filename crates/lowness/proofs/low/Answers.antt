@@ -19,4 +19,4 @@ onward-requires c =
 pub returns : goal.returns
 returns c =
     let a = c.args in
-    λ p told h. low_line a.event-types.now a.kinds a.variable_of.now a.exprs.now a.stmts.now a.inits.now a.heights.now _ _ p told h (c.expr_heights-tall.ensures p told.same_exprs) (c.expr_stars-counts.ensures.1 p told.same_exprs) _ _ _ _ _ _ c.front-b.ensures.0 c.expr_count-x.ensures c.stmt_count-n.ensures c.first_expr-e.ensures.0 c.first_stmt-s.ensures.0 (rw c.joined.ensures.0 at c.onward.ensures.0)
+    λ p told h. low_line a.event_types.now a.kinds a.variable_of.now a.exprs.now a.stmts.now a.inits.now a.heights.now _ _ p told h (c.expr_heights-tall.ensures p told.same_exprs) (c.expr_stars-counts.ensures.1 p told.same_exprs) _ _ _ _ _ _ c.front-b.ensures.0 c.expr_count-x.ensures c.stmt_count-n.ensures c.first_expr-e.ensures.0 c.first_stmt-s.ensures.0 (rw c.joined.ensures.0 at c.onward.ensures.0)

@@ -1,7 +1,5 @@
 -- `ownness::first_stmt` meets its contract: those before the one that it has come to pass.
-use Prim.Native.Nat.{◌-◌}
 use Rattle.faults.specs.First.{seek_first, seek_yes, seek_no, seek_none}
-use Rattle.ownness.specs.Own.{own_stmt}
 use native.Mathlib.Omega.{arith}
 use Rattle.ownness.proofs.first_stmt.Goals as goal
 

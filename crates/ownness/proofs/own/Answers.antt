@@ -14,4 +14,4 @@ onward-requires c =
 pub returns : goal.returns
 returns c =
     let a = c.args in
-    λ p told h. own_line a.event-types.now a.kinds a.variable_of.now a.exprs.now a.stmts.now a.inits.now a.served.now _ p told c.requires h (c.expr_served-marks.ensures p told.same_exprs told.same_stmts h) _ _ _ _ _ _ c.front-b.ensures.0 c.expr_count-x.ensures c.stmt_count-n.ensures c.first_expr-e.ensures.0 c.first_stmt-s.ensures.0 (rw c.joined.ensures.0 at c.onward.ensures.0)
+    λ p told h. own_line a.event_types.now a.kinds a.variable_of.now a.exprs.now a.stmts.now a.inits.now a.served.now _ p told c.requires h (c.expr_served-marks.ensures p told.same_exprs told.same_stmts h) _ _ _ _ _ _ c.front-b.ensures.0 c.expr_count-x.ensures c.stmt_count-n.ensures c.first_expr-e.ensures.0 c.first_stmt-s.ensures.0 (rw c.joined.ensures.0 at c.onward.ensures.0)

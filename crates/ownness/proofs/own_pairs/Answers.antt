@@ -1,5 +1,5 @@
 -- `ownness::own_pairs` meets its contract: the pairs that are left to look at give what all of them give.
-use Prim.Native.Nat.{◌+◌, ◌-◌}
+use Prim.Native.Nat.{◌+◌}
 use Rattle.ownness.specs.Own.{own_pair, pair_first, pair_more, pair_found, pair_none, pair_no, pair_yes}
 use native.Mathlib.Omega.{arith}
 use Rattle.ownness.proofs.own_pairs.Goals as goal

@@ -21,4 +21,4 @@ returns-else-own_at c =
 pub returns-in_default : goal.returns-in_default
 returns-in_default c =
     let a = c.args in
-    other_told a.served.now a.kinds a.variable_of.now a.stmts.now a.inits.now a.n c.stmt_at-h.result c.stmt_at-h.ensures (no_variable a.served.now a.kinds a.variable_of.now a.inits.now a.n c.stmt_at-h.result c.in_default.in_default-own.keys3)
+    other_told a.served.now a.kinds a.variable_of.now a.stmts.now a.inits.now a.n c.stmt_at-h.result c.stmt_at-h.ensures (no_variable a.served.now a.kinds a.variable_of.now a.inits.now a.n c.stmt_at-h.result c.in_default.not-Assign c.in_default.not-New)

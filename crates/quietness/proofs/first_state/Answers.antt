@@ -1,5 +1,4 @@
 -- `quietness::first_state` meets its contract: those before the one that it has come to pass.
-use Prim.Native.Nat.{◌-◌}
 use Rattle.faults.specs.First.{seek_first, seek_yes, seek_no, seek_none}
 use native.Mathlib.Omega.{arith}
 use Rattle.quietness.proofs.first_state.Goals as goal

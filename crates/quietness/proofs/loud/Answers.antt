@@ -1,5 +1,5 @@
 -- `quietness::loud` meets its contract: before the turn of statement s the lower ones have their marks, and the others none.
-use Prim.Native.Nat.{ℕ, ◌-◌}
+use Prim.Native.Nat.{ℕ}
 use lib.ListN.{length-replicate}
 use Rattle.rows.specs.Pad.{zeros_get}
 use Rattle.quietness.specs.Quiet.{quiet_first, quiet_more, quiet_all}

@@ -30,4 +30,4 @@ onward-requires c = omega (arith, few (goal.at.onward-requires c).After-first_st
 pub returns : goal.returns
 returns c =
     let g = c.args in
-    λ p told. quiet_line g.event-types.now g.kinds g.variable_of.now g.exprs.now g.stmts.now g.action_of.now g.state_of.now g.state-exit.now _ p told c.loud-marks.ensures _ _ _ _ _ _ _ c.front-b.ensures.0 c.expr_count-x.ensures c.stmt_count-n.ensures c.action_count-a.ensures c.state_count-m.ensures c.first_state-q.ensures.0 c.onward.ensures.0
+    λ p told. quiet_line g.event_types.now g.kinds g.variable_of.now g.exprs.now g.stmts.now g.action_of.now g.state_of.now g.state_exit.now _ p told c.loud-marks.ensures _ _ _ _ _ _ _ c.front-b.ensures.0 c.expr_count-x.ensures c.stmt_count-n.ensures c.action_count-a.ensures c.state_count-m.ensures c.first_state-q.ensures.0 c.onward.ensures.0

@@ -14,4 +14,4 @@ pub returns-in-Return : goal.returns-in-Return
 returns-in-Return c = sym (ap quiet_head c.in-Return.is)
 
 pub returns-in_default : goal.returns-in_default
-returns-in_default c = is_quiet c.args.h c.in_default.in_default-own.keys4
+returns-in_default c = is_quiet c.args.h c.in_default.not-Raise c.in_default.not-Leave c.in_default.not-Return

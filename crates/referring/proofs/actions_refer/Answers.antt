@@ -2,10 +2,9 @@
 use mathlib.Core.Path.{◌≡◌, ap, sym, ◌∙◌}
 use mathlib.Core.Bool.{Bool, ◌&&◌}
 use mathlib.Core.List.{List}
-use Prim.Native.Nat.{ℕ, ◌+◌, ◌-◌}
+use Prim.Native.Nat.{ℕ, ◌+◌}
 use lib.Dec.{leb}
 use lib.ListN.{length}
-use borrow.Author.Tests.{not-true, not-false}
 use Rattle.lists.specs.Lists.{at, there}
 use Rattle.programs.specs.Program.{Program as Lines}
 use Rattle.soundness.specs.Asked.{refers}
@@ -33,7 +32,7 @@ returns-then-not-both c =
       omega arith,
       λ p n e. sym (row_first (refers p).action no_action p.actions l.i (omega (arith, ap length e, actions_length a.actors.now a.bodies.now, c.action_count-n.ensures)) (l.invariant.2 p n e)
           (tested p a.c a.actors.now a.bodies.now l.i n e (c.action_kind-k.ensures a.bodies.now) c.body_of-b.ensures c.there.ensures c.both.ensures
-          ∙ not-true _ c.if-not-both.true)),
+          ∙ c.if-not-both.true)),
     )
 
 pub loop-i-preserved : goal.loop-i-preserved
@@ -44,7 +43,7 @@ loop-i-preserved c =
       omega arith,
       λ p n e. clear_more (refers p).action no_action p.actions l.i (l.invariant.2 p n e)
           (tested p a.c a.actors.now a.bodies.now l.i n e (c.action_kind-k.ensures a.bodies.now) c.body_of-b.ensures c.there.ensures c.both.ensures
-          ∙ not-false _ c.if-not-both.false),
+          ∙ c.if-not-both.false),
     )
 
 pub returns : goal.returns

@@ -1,6 +1,6 @@
 -- `referring::defers_refer` meets its contract: before a turn no flag of the events behind the last, up to e, is set. Assumes nothing.
 use mathlib.Core.Path.{sym}
-use Prim.Native.Nat.{◌+◌, ◌-◌}
+use Prim.Native.Nat.{◌+◌}
 use borrow.Author.Tests.{eq-eqb, ne_eqb}
 use Rattle.referring.specs.Deferring.{unset_more, defer_passes, defer_fails}
 use native.Mathlib.Omega.{arith}

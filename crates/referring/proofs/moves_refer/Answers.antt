@@ -3,7 +3,6 @@ use mathlib.Core.Path.{◌≡◌, ap, sym, ◌∙◌}
 use mathlib.Core.Bool.{Bool}
 use mathlib.Core.List.{List}
 use Prim.Native.Nat.{ℕ, ◌+◌, ◌-◌, ◌<◌, min}
-use borrow.Author.Tests.{not-true, not-false}
 use Rattle.lists.specs.Lists.{at}
 use Rattle.programs.specs.Program.{Program as Lines, Move}
 use Rattle.soundness.specs.Asked.{move_refers}
@@ -26,7 +25,7 @@ returns-then-not-move_refers c =
     let a = c.args in (
       omega arith,
       λ p entries exits flags n e. sym (row_first (λ j t. move_refers p t) no_move (moves_of a.moves.now a.a a.n) l.i (omega (arith, moves_length a.moves.now a.a a.n)) (l.invariant.2 p entries exits flags n e)
-          (tested p a.moves.now a.a a.n l.i (omega arith) (c.move_refers.ensures p entries exits flags n e) ∙ not-true _ c.if-not-move_refers.true)),
+          (tested p a.moves.now a.a a.n l.i (omega arith) (c.move_refers.ensures p entries exits flags n e) ∙ c.if-not-move_refers.true)),
     )
 
 pub loop-i-preserved : goal.loop-i-preserved
@@ -36,7 +35,7 @@ loop-i-preserved c =
       omega arith,
       l.invariant.1,
       λ p entries exits flags n e. clear_more (λ j t. move_refers p t) no_move (moves_of a.moves.now a.a a.n) l.i (l.invariant.2 p entries exits flags n e)
-          (tested p a.moves.now a.a a.n l.i (omega arith) (c.move_refers.ensures p entries exits flags n e) ∙ not-false _ c.if-not-move_refers.false),
+          (tested p a.moves.now a.a a.n l.i (omega arith) (c.move_refers.ensures p entries exits flags n e) ∙ c.if-not-move_refers.false),
     )
 
 pub returns : goal.returns

@@ -1,8 +1,6 @@
 -- `referring::states_refer` meets its contract: before a turn what the first i states name is there. Assumes nothing.
 use mathlib.Core.Path.{ap, sym, ◌∙◌}
-use Prim.Native.Nat.{◌-◌}
 use lib.ListN.{length}
-use borrow.Author.Tests.{not-true, not-false}
 use Rattle.soundness.specs.Asked.{refers}
 use Rattle.tables.specs.Decode.{no_state}
 use Rattle.tables.specs.Tables.{states_length}
@@ -19,13 +17,13 @@ returns-then-not-state_refers c =
     let a = c.args in (
       omega arith,
       λ p n e. sym (row_first (refers p).state no_state p.states l.i (omega (arith, ap length e, states_length a.states.now a.entries.now a.exits.now a.flags.now, c.state_count-n.ensures))
-          (l.invariant.2 p n e) (sym (c.state_refers.ensures p n e) ∙ not-true _ c.if-not-state_refers.true)),
+          (l.invariant.2 p n e) (sym (c.state_refers.ensures p n e) ∙ c.if-not-state_refers.true)),
     )
 
 pub loop-i-preserved : goal.loop-i-preserved
 loop-i-preserved c =
     let l = c.loop-i in
-    (omega arith, omega arith, λ p n e. clear_more (refers p).state no_state p.states l.i (l.invariant.2 p n e) (sym (c.state_refers.ensures p n e) ∙ not-false _ c.if-not-state_refers.false))
+    (omega arith, omega arith, λ p n e. clear_more (refers p).state no_state p.states l.i (l.invariant.2 p n e) (sym (c.state_refers.ensures p n e) ∙ c.if-not-state_refers.false))
 
 pub returns : goal.returns
 returns c =
