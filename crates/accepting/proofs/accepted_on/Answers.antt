@@ -2,7 +2,6 @@
 use mathlib.Core.Path.{◌≡◌, refl}
 use Prim.Native.Nat.{◌-◌}
 use native.Mathlib.Omega.{arith}
-use borrow.Author.Tests.{not-true, not-false}
 use borrow.Author.Count.{below_more}
 use Rattle.configs.specs.Flat.{flat}
 use Rattle.accepting.specs.Asked.{not_one_low, not_one_high, not_one_distinct, not_one_room, one}
@@ -17,7 +16,7 @@ returns-then-next-gt-LIVE_NUMBERS c = λ p t. not_one_high p _ c.if-next-gt-LIVE
 pub returns-then-not-distinct_ok : goal.returns-then-not-distinct_ok
 returns-then-not-distinct_ok c =
     let a = c.args in
-    λ p t. not_one_distinct p _ (c.distinct_ok.ensures p (flat a.ids.now a.kinds.now a.depths.now a.states.now a.maps.now a.values.now a.counts.now a.parts.now a.held.now a.waiting.now a.pairs.now a.next) refl) (not-true _ c.if-not-distinct_ok.true)
+    λ p t. not_one_distinct p _ (c.distinct_ok.ensures p (flat a.ids.now a.kinds.now a.depths.now a.states.now a.maps.now a.values.now a.counts.now a.parts.now a.held.now a.waiting.now a.pairs.now a.next) refl) c.if-not-distinct_ok.true
 
 pub loop-k-init : goal.loop-k-init
 loop-k-init c = (omega arith, λ p t j h. absurd (omega arith))
@@ -26,16 +25,16 @@ pub room_ok-requires : goal.room_ok-requires
 room_ok-requires c = (c.requires, omega (arith, c.loop-k-test.true))
 
 pub returns-then-not-room_ok : goal.returns-then-not-room_ok
-returns-then-not-room_ok c = λ p t. not_one_room p _ _ (omega (arith, c.loop-k-test.true)) (c.room_ok.ensures p t) (not-true _ c.if-not-room_ok.true)
+returns-then-not-room_ok c = λ p t. not_one_room p _ _ (omega (arith, c.loop-k-test.true)) (c.room_ok.ensures p t) c.if-not-room_ok.true
 
 pub loop-k-preserved : goal.loop-k-preserved
 loop-k-preserved c = (
   omega (arith, c.loop-k-test.true),
-  λ p t. below_more _ _ (c.loop-k.invariant.1 p t) ((c.room_ok.ensures p t).holds (not-false _ c.if-not-room_ok.false)),
+  λ p t. below_more _ _ (c.loop-k.invariant.1 p t) ((c.room_ok.ensures p t).holds c.if-not-room_ok.false),
 )
 
 pub returns : goal.returns
 returns c =
     let last : c.loop-k.k ≡ 32 = omega (arith, c.loop-k-test.false, c.loop-k.invariant.0) in
     let a = c.args in
-    λ p t. one p _ c.if-next-eq0.false c.if-next-gt-LIVE_NUMBERS.false (c.distinct_ok.ensures p (flat a.ids.now a.kinds.now a.depths.now a.states.now a.maps.now a.values.now a.counts.now a.parts.now a.held.now a.waiting.now a.pairs.now a.next) refl) (not-false _ c.if-not-distinct_ok.false) (rw last at (c.loop-k.invariant.1 p t))
+    λ p t. one p _ c.if-next-eq0.false c.if-next-gt-LIVE_NUMBERS.false (c.distinct_ok.ensures p (flat a.ids.now a.kinds.now a.depths.now a.states.now a.maps.now a.values.now a.counts.now a.parts.now a.held.now a.waiting.now a.pairs.now a.next) refl) c.if-not-distinct_ok.false (rw last at (c.loop-k.invariant.1 p t))

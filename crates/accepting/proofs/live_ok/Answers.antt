@@ -1,5 +1,7 @@
 -- `accepting::live_ok` meets its contract, a case for each test that fails.
 use native.Mathlib.Omega.{arith}
+use mathlib.Core.Path.{ap}
+use mathlib.Core.Bool.{not}
 use lib.ListN.{get_or}
 use Rattle.accepting.specs.Asked.{frames_told, row_told, no_number, no_kind, no_such_kind, fails, passes}
 use Rattle.accepting.proofs.live_ok.Goals as goal
@@ -34,14 +36,14 @@ frames_ok-requires c =
 
 pub returns-then-not-frames_ok : goal.returns-then-not-frames_ok
 returns-then-not-frames_ok c =
-    λ p t. fails t _ _ c.requires.2 (λ x. x.stack) (c.frames_ok.ensures p (frames_told t _ c.event_count-events.ensures)) c.if-not-frames_ok.true
+    λ p t. fails t _ _ c.requires.2 (λ x. x.stack) (c.frames_ok.ensures p (frames_told t _ c.event_count-events.ensures)) (ap not c.if-not-frames_ok.true)
 
 pub values_ok-requires : goal.values_ok-requires
 values_ok-requires c = (c.requires.0.sized.values_608, c.requires.1)
 
 pub returns-then-not-values_ok : goal.returns-then-not-values_ok
 returns-then-not-values_ok c =
-    λ p t. fails t _ _ c.requires.2 (λ x. x.values) (c.values_ok.ensures p t.variables_are t.events_are) c.if-not-values_ok.true
+    λ p t. fails t _ _ c.requires.2 (λ x. x.values) (c.values_ok.ensures p t.variables_are t.events_are) (ap not c.if-not-values_ok.true)
 
 pub offset_bounds-held-i : goal.offset_bounds-held-i
 offset_bounds-held-i c = omega (arith, c.requires.1)
@@ -51,7 +53,7 @@ bounds-held-i c = omega (arith, c.requires.1)
 
 pub returns-then-not-pending_ok : goal.returns-then-not-pending_ok
 returns-then-not-pending_ok c =
-    λ p t. fails t _ _ c.requires.2 (λ x. x.pending) (c.pending_ok.ensures p t.events_are) c.if-not-pending_ok.true
+    λ p t. fails t _ _ c.requires.2 (λ x. x.pending) (c.pending_ok.ensures p t.events_are) (ap not c.if-not-pending_ok.true)
 
 pub offset_bounds-counts-i : goal.offset_bounds-counts-i
 offset_bounds-counts-i c = omega (arith, c.requires.1)
@@ -65,7 +67,7 @@ row_ok-requires c =
 
 pub returns-then-not-row_ok : goal.returns-then-not-row_ok
 returns-then-not-row_ok c =
-    λ p t. fails t _ _ c.requires.2 (λ x. x.row) (c.row_ok.ensures p _ (row_told t (get_or c.args.held.now c.args.i 0))) c.if-not-row_ok.true
+    λ p t. fails t _ _ c.requires.2 (λ x. x.row) (c.row_ok.ensures p _ (row_told t (get_or c.args.held.now c.args.i 0))) (ap not c.if-not-row_ok.true)
 
 pub queue_ok-requires : goal.queue_ok-requires
 queue_ok-requires c = (c.requires.0.sized.pairs_512, c.requires.1)
@@ -74,8 +76,8 @@ pub returns : goal.returns
 returns c =
     λ p t.
     passes t _ _ c.requires.2 c.if-next-id.false c.if-kind-eq0.false c.if-machines-kind.false
-    (c.frames_ok.ensures p (frames_told t _ c.event_count-events.ensures)) c.if-not-frames_ok.false
-    (c.values_ok.ensures p t.variables_are t.events_are) c.if-not-values_ok.false
-    (c.pending_ok.ensures p t.events_are) c.if-not-pending_ok.false
-    (c.row_ok.ensures p _ (row_told t (get_or c.args.held.now c.args.i 0))) c.if-not-row_ok.false
+    (c.frames_ok.ensures p (frames_told t _ c.event_count-events.ensures)) (ap not c.if-not-frames_ok.false)
+    (c.values_ok.ensures p t.variables_are t.events_are) (ap not c.if-not-values_ok.false)
+    (c.pending_ok.ensures p t.events_are) (ap not c.if-not-pending_ok.false)
+    (c.row_ok.ensures p _ (row_told t (get_or c.args.held.now c.args.i 0))) (ap not c.if-not-row_ok.false)
     (c.queue_ok.ensures p t.events_are)

@@ -11,7 +11,7 @@ place_tails-at-requires c =
     let ask = lists_handed h in
     let is = c.machine_of-machine.ensures in
     let g = same_machine is (c.take_row-row.ensures _ _ w.table) in
-    (omega (arith, g.rest.few, h.few), tails_asked ask w g)
+    record { used_bound = omega (arith, g.rest.few, h.few); tails = tails_asked ask w g }
 
 pub write_part-requires : goal.write_part-requires
 write_part-requires c =
@@ -27,4 +27,4 @@ returns c =
     let ask = lists_handed c.requires in
     let is = c.machine_of-machine.ensures in
     let g = same_machine is (c.take_row-row.ensures _ _ w.table) in
-    placed ask w g (c.place_tails-at.ensures (tails_asked ask w g)) c.write_part.new.1.1.1.1.0 (omega (arith, ask.inside)) (rw is at c.write_part.ensures.1)
+    placed ask w g (c.place_tails-at.ensures (tails_asked ask w g)) c.write_part.new.out (omega (arith, ask.inside)) (rw is at c.write_part.ensures.out_after)

@@ -5,7 +5,7 @@ use native.Mathlib.Omega.{arith}
 use Rattle.placing.proofs.place_tails.Goals as goal
 
 pub loop-left-init : goal.loop-left-init
-loop-left-init c = (c.requires.0, λ a. begin_tailing a)
+loop-left-init c = (c.requires.used_bound, λ a. begin_tailing a)
 
 pub lowest_row-s-requires : goal.lowest_row-s-requires
 lowest_row-s-requires c = (omega arith, c.loop-left.invariant.0)
@@ -15,21 +15,21 @@ close_row-left-requires c = (c.lowest_row-s.ensures.within, c.loop-left.invarian
 
 pub write_part-o-requires : goal.write_part-o-requires
 write_part-o-requires c =
-    let a = c.requires.1 in
+    let a = c.requires.tails in
     tail_room a.room a.inside (c.loop-left.invariant.1 a) c.lowest_row-s.ensures c.loop-left.invariant.0
 
 pub loop-left-smaller : goal.loop-left-smaller
-loop-left-smaller c = omega (arith, c.close_row-left.ensures.0, c.loop-left-test.true)
+loop-left-smaller c = omega (arith, c.close_row-left.ensures.value, c.loop-left-test.true)
 
 pub loop-left-preserved : goal.loop-left-preserved
 loop-left-preserved c = (
-  omega (arith, c.close_row-left.ensures.0, c.loop-left.invariant.0),
-  λ a. rw (c.close_row-left.ensures.0, c.close_row-left.ensures.1.0, c.close_row-left.ensures.1.1)
-      (tail_turn a.room a.inside (c.loop-left.invariant.1 a) c.lowest_row-s.ensures c.loop-left.invariant.0 c.write_part-o.new.1.1.1.1.0 c.write_part-o.result c.write_part-o.ensures.0 c.write_part-o.ensures.1),
+  omega (arith, c.close_row-left.ensures.value, c.loop-left.invariant.0),
+  λ a. rw (c.close_row-left.ensures.value, c.close_row-left.ensures.who_after, c.close_row-left.ensures.since_after)
+      (tail_turn a.room a.inside (c.loop-left.invariant.1 a) c.lowest_row-s.ensures c.loop-left.invariant.0 c.write_part-o.new.out c.write_part-o.result c.write_part-o.ensures.value c.write_part-o.ensures.out_after),
 )
 
 pub shape_of-out : goal.shape_of-out
-shape_of-out c = (c.loop-left.invariant.1 c.requires.1).long
+shape_of-out c = (c.loop-left.invariant.1 c.requires.tails).long
 
 pub returns : goal.returns
 returns c = λ a. let none : c.loop-left.left ≡ 0 = omega arith in end_tailing (rw none at (c.loop-left.invariant.1 a))

@@ -2,11 +2,10 @@
 use Prim.Native.Nat.{◌<◌, ◌-◌}
 use mathlib.Core.Path.{◌≡◌, sym, ◌∙◌}
 use lib.ListN.{length}
-use mathlib.Core.Logic.{⊎_elim}
 use Rattle.placing.specs.Written.{begins, passes, puts, fits}
 use native.Mathlib.Omega.{arith}
 use Rattle.placing.proofs.write_part.Goals as goal
-use Rattle.placing.proofs.write_part.Goals.{Then-machine-k}
+use Rattle.placing.proofs.write_part.Goals.{Then-machine-k, then-machine-k, else-machine-k}
 
 -- there is room for a choice of the machine
 room : (c : Then-machine-k) → c.loop-j.o < length c.loop-j.out
@@ -30,8 +29,10 @@ loop-j-preserved c =
     let h = c.loop-j.invariant.1 in
     let asked = c.requires in (
       omega arith,
-      ⊎_elim (λ w. rw (w.1, w.2) (puts asked h c.loop-j-test.true (sym c.machine_of-machine.ensures ∙ w.0.taken)))
-          (λ w. rw (w.1, w.2) (passes asked h c.loop-j-test.true (λ e. w.0.left (c.machine_of-machine.ensures ∙ e)))) c.if-machine-k.branch,
+      elim c.if-machine-k.branch [
+        | then-machine-k w ↦ rw (w.out-is, w.o-is) (puts asked h c.loop-j-test.true (sym c.machine_of-machine.ensures ∙ w.if-machine-k.true))
+        | else-machine-k w ↦ rw (w.out-is, w.o-is) (passes asked h c.loop-j-test.true (λ e. w.if-machine-k.false (c.machine_of-machine.ensures ∙ e)))
+      ],
     )
 
 pub shape_of-out : goal.shape_of-out
@@ -39,4 +40,4 @@ shape_of-out c = c.loop-j.invariant.1.long
 
 pub returns : goal.returns
 returns c = let past : c.loop-j.j ≡ c.args.end = omega arith in
-    let w = rw past at c.loop-j.invariant.1 in (w.next, w.written)
+    let w = rw past at c.loop-j.invariant.1 in record { value = w.next; out_after = w.written }
