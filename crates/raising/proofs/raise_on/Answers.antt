@@ -1,5 +1,4 @@
 -- `raising::raise_on` meets its contract: refused where the payload does not suit, else raised.
-use borrow.Author.Tests.{not-true, not-false}
 use Rattle.statements.specs.Heading.{placing_alone}
 use Rattle.statements.specs.Conditions.{asked_readable}
 use Rattle.raising.specs.Raising.{placing, raise_tables, raise_event, raise_asked, raise_refused, raise_left}
@@ -10,7 +9,7 @@ pub number-v-requires : goal.number-v-requires
 number-v-requires c = (asked_readable c.requires.test, c.requires.test.bits)
 
 pub returns-then-not-suits : goal.returns-then-not-suits
-returns-then-not-suits c = λ a. raise_refused a _ c.number-v.ensures _ (rw c.index.ensures at c.event_type-t.ensures) _ c.value_of.ensures _ c.suits.ensures (not-true _ c.if-not-suits.true)
+returns-then-not-suits c = λ a. raise_refused a _ c.number-v.ensures _ (rw c.index.ensures at c.event_type-t.ensures) _ c.value_of.ensures _ c.suits.ensures c.if-not-suits.true
 
 pub exit_or_skip-s-requires : goal.exit_or_skip-s-requires
 exit_or_skip-s-requires c = rw c.index-2.ensures (raise_asked c.requires)
@@ -55,4 +54,4 @@ pub returns : goal.returns
 returns c = λ a.
     raise_left a _ c.number-v.ensures _ (rw c.index.ensures at c.event_type-t.ensures) _ c.value_of.ensures _ c.suits.ensures _ _ _
     (rw c.index-2.ensures at (c.exit_or_skip-s.ensures a.test.row.p a.entries a.flags (raise_tables a) (rw c.index-2.ensures (raise_event a).1)))
-    c.code.ensures c.pair.ensures (not-false _ c.if-not-suits.false) c.only.ensures
+    c.code.ensures c.pair.ensures c.if-not-suits.false c.only.ensures
