@@ -1,6 +1,6 @@
 -- A turn over row i + 1 of each table: where the fault of the first i rows and the marks of what they name are known, so are those of the first i + 1.
 use Rattle.std.specs.Prelude.{ℕ, ◌+◌, ◌-◌, ◌<◌, ◌≡◌, Bool, not, cond, ◌&&◌, ◌||◌, List, [], ◌∷◌, ◌++◌, map, length, take}
-use Rattle.std.proofs.Common.{sym, ◌∙◌, append_assoc, arith}
+use Rattle.std.proofs.Common.{ap, sym, ◌∙◌, append_assoc, arith}
 use Rattle.lists.specs.Lists.{at, flat}
 use Rattle.lists.specs.Check.{under, each}
 use Rattle.programs.specs.declared.Leaf.TheVariants.{Bot as bot}
@@ -11,7 +11,7 @@ use Rattle.programs.specs.Trees.{operands}
 use Rattle.programs.specs.Statements.{parts, exprs_of}
 use Rattle.soundness.specs.Asked.{bodies, lower}
 use Rattle.tables.specs.Decode.{no_action, no_state}
-use Rattle.faults.specs.Faults.{joined, row_fault, rows_more}
+use Rattle.faults.specs.Faults.{joined, line_fault, row_fault, rows_more}
 use Rattle.doubling.specs.Doubling.{Seen, Named}
 use Rattle.lowering.specs.Lowering.{flat_more, map_more, not_either}
 
@@ -61,7 +61,7 @@ module _ (p : Program) (i : ℕ) where
       → (next ≡ row_fault (lower p).state (take (i + 1) p.states)) × Seen then (flat parts p.stmts ++ (map (λ a. a.body) p.actions ++ flat (bodies p) (take (i + 1) p.states)))
   state_turn x q h nm hb hn hf s = (
     hn ∙ rw (hf, hb, nm.tells p (flat parts p.stmts ++ (map (λ a. a.body) p.actions ++ flat (bodies p) (take i p.states))) s)
-        (sym (rows_more (lower p).state no_state p.states i h ∙ rw (q, same))),
+        (sym (rows_more (lower p).state no_state p.states i h ∙ ap (λ (y : State). joined (row_fault (lower p).state (take i p.states)) i (line_fault ((lower p).state (i + 1) y))) q ∙ rw same)),
     rw (flat_more no_state p.states i h (bodies p), q)
         (rw (append_assoc (flat parts p.stmts) (map (λ a. a.body) p.actions ++ flat (bodies p) (take i p.states)) (bodies p x), append_assoc (map (λ a. a.body) p.actions) (flat (bodies p) (take i p.states)) (bodies p x))
         at (nm.keeps (flat parts p.stmts ++ (map (λ a. a.body) p.actions ++ flat (bodies p) (take i p.states))) s)),

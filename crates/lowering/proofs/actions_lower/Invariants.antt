@@ -1,7 +1,7 @@
 -- `lowering::actions_lower` meets its contract: before a turn `first` is the fault of the first i actions, and the marks are those of their statements too. Assumes nothing.
 use mathlib.Core.Path.{◌≡◌}
 use mathlib.Core.List.{◌++◌, map}
-use Prim.Native.Nat.{◌+◌, ◌-◌, ◌≤◌}
+use Prim.Native.Nat.{◌-◌, ◌≤◌}
 use lib.ListN.{take}
 use Rattle.lists.specs.Lists.{flat}
 use Rattle.programs.specs.Program.{Program as Lines}

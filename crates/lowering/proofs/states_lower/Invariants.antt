@@ -1,7 +1,7 @@
 -- `lowering::states_lower` meets its contract: before a turn `first` is the fault of the first i states, and the marks are those of their entries and exits too. Assumes nothing.
 use mathlib.Core.Path.{◌≡◌}
 use mathlib.Core.List.{List, ◌++◌, map}
-use Prim.Native.Nat.{ℕ, ◌+◌, ◌-◌, ◌≤◌}
+use Prim.Native.Nat.{ℕ, ◌-◌, ◌≤◌}
 use lib.ListN.{take}
 use Rattle.lists.specs.Lists.{flat}
 use Rattle.programs.specs.Program.{Program as Lines}

@@ -1,7 +1,7 @@
 -- `lowering::stmts_lower` meets its contract: before a turn `first` is the fault of the first i statements, and the marks are those of their expressions and parts. Assumes nothing.
 use mathlib.Core.Path.{◌≡◌, refl, ap, sym, ◌∙◌}
 use mathlib.Core.List.{List, append-nil}
-use Prim.Native.Nat.{◌+◌, ◌-◌}
+use Prim.Native.Nat.{◌+◌}
 use lib.ListN.{length, take}
 use lib.Seq.{take_all}
 use Rattle.lists.specs.Lists.{at, flat}

@@ -1,7 +1,7 @@
 -- `lowering::stmts_lower` meets its contract: before a turn `first` is the fault of the first i statements, and the marks are those of their expressions and parts. Assumes nothing.
 use mathlib.Core.Path.{◌≡◌}
 use mathlib.Core.List.{[], ◌++◌}
-use Prim.Native.Nat.{◌+◌, ◌-◌, ◌≤◌}
+use Prim.Native.Nat.{◌-◌, ◌≤◌}
 use lib.ListN.{take}
 use Rattle.lists.specs.Lists.{flat}
 use Rattle.programs.specs.Program.{Program as Lines}
