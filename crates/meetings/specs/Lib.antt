@@ -3,5 +3,4 @@ pub mod Meetings
 -- why a dequeue is a meeting
 pub mod Example
 -- demand 3
-pub mod Bridge
 pub mod Good

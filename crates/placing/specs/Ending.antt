@@ -11,7 +11,7 @@ use Rattle.lists.specs.Ends.{last_of, take_init}
 use Rattle.regrouping.specs.Regrouped.{mine, others, by_number, weave}
 use Rattle.regrouping.specs.Demand.{choices}
 use Rattle.placing.specs.Placed.{owner, owner_at, with_rules, own_n, meet_n, placed_list}
-use Rattle.regrouping.specs.Maps.{map_mine, map_others, map_by_number}
+use Rattle.regrouping.proofs.Maps.{map_mine, map_others, map_by_number}
 use Rattle.placing.specs.Written.{of_machine, part_with, sets_behind, sets_front, Room}
 use Rattle.placing.specs.Closing.{Without}
 use Rattle.placing.specs.Weaving.{entries, all_of, all_length, Lists, Weaving}

@@ -14,7 +14,7 @@ use Rattle.meetings.specs.Meetings.{own, meets}
 use Rattle.regrouping.specs.Regrouped.{regrouped}
 use Rattle.regrouping.specs.Demand.{choices, own_e, meet_e}
 use Rattle.placing.specs.Placed.{owner, with_rules, own_n, meet_n, woven, placed_list}
-use Rattle.regrouping.specs.Maps.{map_regrouped}
+use Rattle.regrouping.proofs.Maps.{map_regrouped}
 
 -- a choice and its rule as numbers
 abbrev numbered : Choice × Rule → ℕ × ℕ

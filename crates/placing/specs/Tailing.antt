@@ -5,7 +5,7 @@ use Rattle.std.proofs.lemmas.List.Edits.{sets}
 use Rattle.std.proofs.Math.Seq.{length-sets}
 use Rattle.regrouping.specs.Regrouped.{others, tails, by_number}
 use Rattle.placing.specs.Placed.{owner}
-use Rattle.regrouping.specs.Mine.{by_number_next}
+use Rattle.regrouping.proofs.Mine.{by_number_next}
 use Rattle.placing.specs.Written.{of_machine, sets_behind, Room}
 use Rattle.placing.specs.Waiting.{Waiting, all_placed}
 use Rattle.placing.specs.Closing.{Lowest, none_lower, closed, Without, without_row}

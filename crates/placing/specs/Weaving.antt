@@ -12,7 +12,7 @@ use Rattle.regrouping.specs.Regrouped.{mine, others, weave}
 use Rattle.regrouping.specs.Demand.{choices}
 use Rattle.regrouping.specs.Swaps.{swaps_weave, swaps_length}
 use Rattle.placing.specs.Placed.{owner, owner_at, with_rules, own_n, meet_n, woven}
-use Rattle.regrouping.specs.Maps.{map_mine, map_others}
+use Rattle.regrouping.proofs.Maps.{map_mine, map_others}
 use Rattle.placing.specs.Written.{of_machine, part_with, sets_behind, Room}
 use Rattle.placing.specs.Waiting.{Waiting, nobody, passes}
 use Rattle.placing.specs.Closing.{Without}

@@ -25,7 +25,8 @@ use Rattle.acceptance.specs.Decide.{accepted_is}
 use Rattle.kept.specs.Kept.{find_ok}
 use Rattle.regrouping.specs.Demand.{Regrouping}
 use Rattle.meetings.specs.Meetings.{meets, own, regroup}
-use Rattle.meetings.specs.Good.{regroup_good, no_list, a_list}
+use Rattle.meetings.specs.Good.{no_list, a_list}
+use Rattle.meetings.proofs.Good.{regroup_good}
 use Rattle.public.specs.Public.{fit, public_step, ran, stopped, public_run, public_rules, wrote_nothing, listed, public_regroup}
 
 module _ (p : Program) (c : Config) where

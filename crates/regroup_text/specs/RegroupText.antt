@@ -13,7 +13,8 @@ use Rattle.kept.specs.Theorem.{start_accepted}
 use Rattle.regrouping.specs.Demand.{Regrouping}
 use Rattle.regrouping.specs.Same.{same_all, same_many}
 use Rattle.meetings.specs.Meetings.{meets, own, regroup}
-use Rattle.meetings.specs.Good.{regroup_good, a_list}
+use Rattle.meetings.specs.Good.{a_list}
+use Rattle.meetings.proofs.Good.{regroup_good}
 use Rattle.public.specs.Public.{listed}
 use Rattle.outputs.specs.Programs.{refusal, choice_line, regroup_program}
 use Rattle.outputs.specs.Lengths.{choice_lines_length, answer_length}

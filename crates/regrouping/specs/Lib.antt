@@ -2,13 +2,11 @@
 pub mod Regrouped
 pub mod Example
 pub mod Demand
--- the theorem, over any step
+-- how the theorem over any step is shown: the entries machine by machine, and the moves that regrouping makes
 pub mod Tails
 pub mod Swaps
-pub mod Theorem
--- an entry more; an entry's machine and its class are all that counts
+-- an entry more
 pub mod Mine
-pub mod Maps
 -- a run and its labels
 pub mod Labelled
 -- the same choices

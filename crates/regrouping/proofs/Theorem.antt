@@ -14,7 +14,8 @@ use Rattle.lists.specs.Keep.{keep_map}
 use Rattle.lists.specs.Ends.{init_of, last_of, init_last, but_last, last_snoc, before_end, map_split}
 use Rattle.regrouping.specs.Regrouped.{tails, weave, regrouped}
 use Rattle.regrouping.specs.Demand.{choices, own_e, meet_e, label, regroup, MeetsAt, Regrouping}
-use Rattle.regrouping.specs.Swaps.{Swaps, Swaps.none as still, after, swap, and_then, swaps_weave, swaps_mine, swaps_perm, swaps_length, swaps_behind, Calm, Tidy, tidy_at, tidy_weave}
+use Rattle.regrouping.specs.Swaps.{Swaps, Swaps.none as still, after, swap, and_then, swaps_weave, swaps_mine, swaps_perm, swaps_length, swaps_behind, Calm, Tidy, tidy_at}
+use Rattle.regrouping.proofs.Swaps.{tidy_weave}
 
 -- ends with the same number of steps
 same_ended : {C : Type 0} (c : C) (a : Answer) (m n : ℕ) → m ≡ n → ◌≡◌ {A = Ended C} (record { config = c; answer = a; steps = m }) (record { config = c; answer = a; steps = n })

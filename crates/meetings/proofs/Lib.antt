@@ -1,0 +1,3 @@
+-- demand 3
+pub mod Bridge
+pub mod Good
