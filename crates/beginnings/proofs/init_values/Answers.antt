@@ -2,7 +2,6 @@
 use Prim.Native.Nat.{◌+◌, ◌-◌, ◌*◌, ◌<◌}
 use mathlib.Core.Path.{sym, ◌∙◌}
 use native.Mathlib.Omega.{arith}
-use borrow.Author.Tests.{not-true, not-false}
 use lib.ListN.{get_or}
 use Rattle.tables.specs.Tables.{pairs_length}
 use Rattle.beginnings.specs.Inits.{inits_readable, work_bits, variable_small, place_small, inits_wrong, inits_more, inits_none, inits_all}
@@ -31,7 +30,7 @@ returns-then-not-suits c =
     let first = c.wide-first.ensures in
     λ q. inits_wrong q c.loop-j.j (omega (arith, pairs_length c.args.inits.now c.args.z c.args.n, c.rows_from-count.ensures, c.wide.ensures, first, c.loop-j-test.true)) c.loop-j.rest c.eval-u.result c.loop-j.out
     (c.loop-j.invariant.1 q) (rw (c.wide-e.ensures, first) at c.eval-u.ensures)
-    (sym (not-true c.suits.result c.if-not-suits.true) ∙ rw (c.variable_type-ty.ensures, c.value_of.ensures, c.wide-x.ensures, first) at c.suits.ensures) _ c.clear_u64.ensures
+    (sym c.if-not-suits.true ∙ rw (c.variable_type-ty.ensures, c.value_of.ensures, c.wide-x.ensures, first) at c.suits.ensures) _ c.clear_u64.ensures
 
 pub bounds-places-x : goal.bounds-places-x
 bounds-places-x c =
@@ -42,7 +41,7 @@ pub offset_bounds-out-index : goal.offset_bounds-out-index
 offset_bounds-out-index c = omega (arith, stored (goal.at.offset_bounds-out-index c).After-index)
 
 pub bounds-out-index : goal.bounds-out-index
-bounds-out-index c = omega (arith, stored (goal.at.bounds-out-index c).After-way_told-in-loop-j-2-1)
+bounds-out-index c = omega (arith, stored (goal.at.bounds-out-index c).After-index)
 
 pub loop-j-preserved : goal.loop-j-preserved
 loop-j-preserved c =
@@ -50,7 +49,7 @@ loop-j-preserved c =
       omega arith,
       λ q. rw (c.index.ensures, c.wide-x.ensures, first) (inits_more q c.loop-j.j (omega (arith, pairs_length c.args.inits.now c.args.z c.args.n, c.rows_from-count.ensures, c.wide.ensures, first, c.loop-j-test.true)) c.loop-j.rest c.eval-u.result c.loop-j.out
           (c.loop-j.invariant.1 q) (rw (c.wide-e.ensures, first) at c.eval-u.ensures)
-          (sym (not-false c.suits.result c.if-not-suits.false) ∙ rw (c.variable_type-ty.ensures, c.value_of.ensures, c.wide-x.ensures, first) at c.suits.ensures)),
+          (sym c.if-not-suits.false ∙ rw (c.variable_type-ty.ensures, c.value_of.ensures, c.wide-x.ensures, first) at c.suits.ensures)),
     )
 
 pub returns : goal.returns

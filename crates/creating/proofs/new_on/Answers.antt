@@ -2,7 +2,6 @@
 use Prim.Native.Nat.{◌<◌}
 use mathlib.Core.Path.{refl}
 use native.Mathlib.Omega.{arith}
-use borrow.Author.Tests.{not-true, not-false}
 use lib.ListN.{replicate}
 use Rattle.beginnings.specs.Initial.{initial_small}
 use Rattle.creating.specs.Asked.{zeros, variable_small, variable_place, room_32, new_headed, to_inits, new_wrong, new_spent, new_none, new_lay, new_done}
@@ -18,15 +17,15 @@ init_values-requires c = to_inits c.requires (replicate 19 0) refl (zeros 19)
 
 pub returns-then-not-init_values : goal.returns-then-not-init_values
 returns-then-not-init_values c =
-    λ q t α. new_wrong q (replicate 19 0) refl (zeros 19) _ t α (rw (not-true c.init_values.result c.if-not-init_values.true) at (c.init_values.ensures (to_inits q (replicate 19 0) refl (zeros 19))))
+    λ q t α. new_wrong q (replicate 19 0) refl (zeros 19) _ t α (rw c.if-not-init_values.true at (c.init_values.ensures (to_inits q (replicate 19 0) refl (zeros 19))))
 
 pub returns-then-i-ge-SPENT : goal.returns-then-i-ge-SPENT
 returns-then-i-ge-SPENT c =
-    λ q t α. new_spent q (replicate 19 0) refl (zeros 19) _ t α (rw (not-false c.init_values.result c.if-not-init_values.false) at (c.init_values.ensures (to_inits q (replicate 19 0) refl (zeros 19)))) c.if-i-ge-SPENT.true
+    λ q t α. new_spent q (replicate 19 0) refl (zeros 19) _ t α (rw c.if-not-init_values.false at (c.init_values.ensures (to_inits q (replicate 19 0) refl (zeros 19)))) c.if-i-ge-SPENT.true
 
 pub returns-then-to-eq-ROOMS : goal.returns-then-to-eq-ROOMS
 returns-then-to-eq-ROOMS c =
-    λ q t α. new_none q (replicate 19 0) refl (zeros 19) _ t α (rw (not-false c.init_values.result c.if-not-init_values.false) at (c.init_values.ensures (to_inits q (replicate 19 0) refl (zeros 19)))) c.find_room-to.result c.find_room-to.ensures c.if-i-ge-SPENT.false c.if-to-eq-ROOMS.true
+    λ q t α. new_none q (replicate 19 0) refl (zeros 19) _ t α (rw c.if-not-init_values.false at (c.init_values.ensures (to_inits q (replicate 19 0) refl (zeros 19)))) c.find_room-to.result c.find_room-to.ensures c.if-i-ge-SPENT.false c.if-to-eq-ROOMS.true
 
 pub bounds-places-wide : goal.bounds-places-wide
 bounds-places-wide c = omega (arith, c.wide.ensures, variable_small c.requires)
@@ -38,7 +37,7 @@ pub offset_bounds-values-k : goal.offset_bounds-values-k
 offset_bounds-values-k c = omega (arith, placed (goal.at.offset_bounds-values-k c).After-index, room_32 c.requires)
 
 pub bounds-values-k : goal.bounds-values-k
-bounds-values-k c = omega (arith, placed (goal.at.bounds-values-k c).After-way_told-2-1, room_32 c.requires)
+bounds-values-k c = omega (arith, placed (goal.at.bounds-values-k c).After-index, room_32 c.requires)
 
 pub finish_head-requires : goal.finish_head-requires
 finish_head-requires c = new_headed c.requires
@@ -54,6 +53,6 @@ lay_new-requires c =
 pub returns : goal.returns
 returns c =
     λ q t α. new_done q _ _ _ refl c.finish_head.ensures c.find_room-to.result c.find_room-to.ensures c.if-i-ge-SPENT.false c.if-to-eq-ROOMS.false (replicate 19 0) refl (zeros 19) _ t α
-    (rw (not-false c.init_values.result c.if-not-init_values.false) at (c.init_values.ensures (to_inits q (replicate 19 0) refl (zeros 19))))
+    (rw c.if-not-init_values.false at (c.init_values.ensures (to_inits q (replicate 19 0) refl (zeros 19))))
     c.code-id.result c.code-id.ensures c.initial_state-state.result c.initial_state-state.ensures c.entry_of-entry.result c.entry_of-entry.ensures _ _ _ _ _ _ _
     (rw (c.index.ensures, c.wide.ensures) at c.lay_new.ensures)

@@ -6,7 +6,6 @@ use native.Mathlib.Omega.{arith}
 use lib.ListN.{get_or}
 use Rattle.machines.specs.Maps.{held_back}
 use Rattle.maps.specs.Maps.{map_at}
-use borrow.Author.Tests.{not-true, not-false}
 use borrow.Author.Count.{below_more}
 use Rattle.dequeuing.specs.Search.{event_at, search_asked}
 use Rattle.dequeuing.proofs.first_free.Goals as goal
@@ -28,7 +27,7 @@ returns-then-not-held_back c p entries exits t h =
     record {
       inside = omega arith;
       before = l.invariant.1 p entries exits t h;
-      here = λ _. ap (held_back p a.n (map_at p a.b a.maps.now)) (sym q) ∙ sym (c.held_back.ensures p entries exits t (rw q (h l.j j))) ∙ not-true c.held_back.result c.if-not-held_back.true;
+      here = λ _. ap (held_back p a.n (map_at p a.b a.maps.now)) (sym q) ∙ sym (c.held_back.ensures p entries exits t (rw q (h l.j j))) ∙ c.if-not-held_back.true;
     }
 
 pub loop-j-preserved : goal.loop-j-preserved
@@ -39,7 +38,7 @@ loop-j-preserved c =
     let q : c.event-e.result ≡ event_at a.k a.pairs.now l.j = c.event-e.ensures in (
       omega arith,
       λ p entries exits t h. below_more (λ i. held_back p a.n (map_at p a.b a.maps.now) (event_at a.k a.pairs.now i) ≡ true) l.j (l.invariant.1 p entries exits t h)
-          (ap (held_back p a.n (map_at p a.b a.maps.now)) (sym q) ∙ sym (c.held_back.ensures p entries exits t (rw q (h l.j j))) ∙ not-false c.held_back.result c.if-not-held_back.false),
+          (ap (held_back p a.n (map_at p a.b a.maps.now)) (sym q) ∙ sym (c.held_back.ensures p entries exits t (rw q (h l.j j))) ∙ c.if-not-held_back.false),
     )
 
 pub returns : goal.returns

@@ -70,4 +70,4 @@ pub returns-in_default : goal.returns-in_default
 returns-in_default c =
     λ a.
     let is = head_is a c.wide-s.result c.stmt_at-h.result c.wide-s.ensures c.stmt_at-h.ensures in
-    own_performed a c.stmt_at-h.result is _ _ (other_own c.stmt_at-h.result c.in_default.in_default-own.keys4) (c.own_on.ensures (own_asked a c.stmt_at-h.result is))
+    own_performed a c.stmt_at-h.result is _ _ (other_own c.stmt_at-h.result c.in_default.not-New c.in_default.not-Delete c.in_default.not-Send) (c.own_on.ensures (own_asked a c.stmt_at-h.result is))
