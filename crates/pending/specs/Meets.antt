@@ -11,7 +11,6 @@ use Rattle.machines.specs.Config.{Frame, Pending, idle, Local}
 use Rattle.machines.specs.Locals.{remains, stacked}
 use Rattle.machines.specs.Rooms.{set_local}
 use Rattle.rules.specs.declared.Rule.TheVariants.{STEP, ACTION, CALL, POP1, POP2}
-use Rattle.rules.specs.Act.{pends}
 use Rattle.configs.specs.Encode.{held_code}
 use Rattle.configs.specs.Flat.{Flat, room_path}
 use Rattle.parts.specs.Parts.{Said, Any, tidied}
