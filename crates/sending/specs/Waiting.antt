@@ -15,7 +15,7 @@ use Rattle.soundness.specs.Sound.{Sound}
 use Rattle.machines.specs.Config.{Pair, Machine}
 use Rattle.machines.specs.Queue.{put}
 use Rattle.machines.specs.Rooms.{set_queue}
-use Rattle.acceptance.specs.Accepted.{PairOk, QueueOk}
+use Rattle.acceptance.specs.Accepted.{PairOk}
 use Rattle.codes.specs.Pairs.{CanonicalPair, pair_canonical}
 use Rattle.configs.specs.Decode.{pair_of}
 use Rattle.configs.specs.Encode.{pair_number, taken}

@@ -1,5 +1,4 @@
 -- `beginnings::initial_state` meets its contract: the states that are passed are of other kinds. Assumes nothing.
-use Prim.Native.Nat.{◌-◌}
 use mathlib.Core.Path.{◌≡◌}
 use mathlib.Core.Logic.{dite}
 use native.Mathlib.Decide.{ℕ_discrete}
