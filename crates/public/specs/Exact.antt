@@ -18,7 +18,8 @@ use Rattle.machines.specs.Config.{Pending, idle, raising, returning, Config, Cho
 use Rattle.runs.specs.Outcome.{refused}
 use Rattle.runs.specs.Run.{Stepped, run, ruled}
 use Rattle.rules.specs.Step.{step}
-use Rattle.rules.specs.Occasions.{SeqFirst, answer_20}
+use Rattle.rules.specs.Occasions.{SeqFirst}
+use Rattle.rules.proofs.Occasions.{answer_20}
 use Rattle.soundness.specs.Sound.{Sound, sound_is}
 use Rattle.acceptance.specs.Accepted.{NoSeq, Formed, Accepted}
 use Rattle.acceptance.specs.Decide.{accepted_is}
