@@ -94,6 +94,11 @@ fn compare_argument(rt: &(impl Files + Print), argument: &str) -> io::Result<Fou
     compare(rt, name)
 }
 
+// The last line.
+fn tell_counts(rt: &impl Print, texts: u64, runs: u64, regroupings: u64) -> io::Result<()> {
+    println!(rt; "{texts} texts: {runs} runs and {regroupings} regroupings as recorded")
+}
+
 // The texts that the arguments name, and the last line.
 fn compare_all(rt: &(impl Env + Files + Print + AllocGlobal)) -> io::Result<()> {
     let mut texts: u64 = 0;
@@ -111,7 +116,7 @@ fn compare_all(rt: &(impl Env + Files + Print + AllocGlobal)) -> io::Result<()> 
             }
         }
     }
-    println!(rt; "{texts} texts: {runs} runs and {regroupings} regroupings as recorded")
+    tell_counts(rt, texts, runs, regroupings)
 }
 
 fn main(rt: HostRuntime) -> io::Result<()> {
