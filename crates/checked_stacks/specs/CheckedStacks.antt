@@ -23,7 +23,7 @@ use Rattle.tables.specs.Widths.{padded_part}
 use Rattle.configs.specs.Decode.{down_to, reply_of, frame_at}
 use Rattle.configs.specs.Encode.{reply_code, map_codes}
 use Rattle.lists.specs.Keep.{All-reverse}
-use Rattle.configs.specs.RoundTrip.{no_frame, code_back}
+use Rattle.configs.proofs.RoundTrip.{no_frame, code_back}
 use Rattle.configs.specs.Reversed.{down_to_at, down_to_length}
 use Rattle.zeros.specs.Zeros.{Zeros}
 use Rattle.zeros.specs.Packed.{reverse_down, packed, unpacked}

@@ -22,7 +22,7 @@ use Rattle.codes.specs.Codes.{code_of}
 use Rattle.codes.specs.Pairs.{pair_event, pair_value, CanonicalPair, pair_event_lem, pair_value_lem, pair_rest, pair_canonical}
 use Rattle.configs.specs.Decode.{pair_of}
 use Rattle.configs.specs.Encode.{pair_number, taken}
-use Rattle.configs.specs.RoundTrip.{holdable, machine_back}
+use Rattle.configs.proofs.RoundTrip.{holdable, machine_back}
 use Rattle.configs.specs.Flat.{Flat, flat, room_path}
 use Rattle.maps.specs.Maps.{Tables, Asked, map_at}
 use Rattle.queues.specs.Queues.{QueueOk, queue_at, Removed, Becomes, queue_length, becomes_ok, becomes_queue, remove_becomes}

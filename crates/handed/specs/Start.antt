@@ -8,7 +8,7 @@ use Rattle.tables.specs.declared.Program.{Program as Tables}
 use Rattle.tables.specs.Decode.{program_of}
 use Rattle.configs.specs.Decode.{config_of}
 use Rattle.configs.specs.Encode.{written}
-use Rattle.configs.specs.RoundTrip.{reads_written}
+use Rattle.configs.proofs.RoundTrip.{reads_written}
 use Rattle.handed.specs.Handed.{Fit}
 
 pub start_fits : (q : Tables) → Sound (program_of q) → Fit q (written (start_config (program_of q)))

@@ -23,7 +23,7 @@ use Rattle.kept.specs.Theorem.{start_accepted}
 use Rattle.tables.specs.Decode.{program_of}
 use Rattle.configs.specs.Decode.{config_of}
 use Rattle.configs.specs.Encode.{written}
-use Rattle.configs.specs.RoundTrip.{reads_written}
+use Rattle.configs.proofs.RoundTrip.{reads_written}
 use Rattle.handed.specs.Handed.{fit, fit_is}
 use Rattle.loaded_fits.specs.LoadedFits.{loaded_reads, loaded_fits}
 use Rattle.outputs.specs.Refusals.{Refuses, answer_refuses}

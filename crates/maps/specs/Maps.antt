@@ -19,7 +19,7 @@ use Rattle.machines.specs.Config.{Reply, action, deferred, nothing}
 use Rattle.machines.specs.Maps.{is_deferred, is_action, entry_at, Pop, exit_or_skip, held_back, inherits, inherits_from, call_map, inherits_length}
 use Rattle.configs.specs.Decode.{reply_of}
 use Rattle.configs.specs.Encode.{reply_code}
-use Rattle.configs.specs.RoundTrip.{code_back}
+use Rattle.configs.proofs.RoundTrip.{code_back}
 
 -- WHAT IS LENT
 -- `says` is the program's, and what a line leads to is numbered from 1: a 0 in `says` is for no line

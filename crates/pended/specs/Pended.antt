@@ -13,7 +13,7 @@ use Rattle.tables.specs.Decode.{count, events_of, actions_of}
 use Rattle.tables.specs.Tables.{events_length}
 use Rattle.codes.specs.Pairs.{pair_event, pair_value}
 use Rattle.configs.specs.Decode.{pending_of}
-use Rattle.configs.specs.RoundTrip.{pending_back}
+use Rattle.configs.proofs.RoundTrip.{pending_back}
 use Rattle.maps.specs.Maps.{Moves, Tables, Asked, map_at}
 use Rattle.parts.specs.Parts.{Said}
 use Rattle.engine.specs.declared.Outcome.{Outcome}

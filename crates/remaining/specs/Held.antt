@@ -18,7 +18,7 @@ use Rattle.kept.specs.KeptRow.{row_fits}
 use Rattle.configs.specs.Decode.{pending_of}
 use Rattle.configs.specs.Encode.{held_code, taken}
 use Rattle.configs.specs.Reversed.{down_to_reverse, down_to_length, down_to_at}
-use Rattle.configs.specs.RoundTrip.{pending_back}
+use Rattle.configs.proofs.RoundTrip.{pending_back}
 use Rattle.configs.specs.Flat.{Flat, Sized, room_at, room_path}
 use Rattle.parts.specs.Parts.{row_at, Said, tidied, awaits, awaits_held, lone_awaits}
 use Rattle.engine.specs.Engine.{Stands, Changed}

@@ -26,7 +26,7 @@ use Rattle.outputs.specs.Steps.{ruled_most, lines_of_first}
 use Rattle.outputs.specs.Public.{run_is_public, rules_are_public}
 use Rattle.configs.specs.Decode.{config_of}
 use Rattle.configs.specs.Encode.{written}
-use Rattle.configs.specs.RoundTrip.{reads_written}
+use Rattle.configs.proofs.RoundTrip.{reads_written}
 use Rattle.tabled.specs.Tabled.{choice_table, load_of}
 use Rattle.handed_runs.specs.HandedRuns.{ran_as, run_of, rules_of, fronted}
 use Rattle.handed_out.specs.HandedOut.{Loads, refused_out, few, ranged, table_is, choices_back, sound, start_back, program_back, fitting}

@@ -19,7 +19,7 @@ use Rattle.acceptance.specs.Accepted.{PairOk}
 use Rattle.codes.specs.Pairs.{CanonicalPair, pair_canonical}
 use Rattle.configs.specs.Decode.{pair_of}
 use Rattle.configs.specs.Encode.{pair_number, taken}
-use Rattle.configs.specs.RoundTrip.{holdable, pair_back}
+use Rattle.configs.proofs.RoundTrip.{holdable, pair_back}
 use Rattle.configs.specs.Flat.{Flat, Sized, room_at, room_path}
 use Rattle.queues.specs.Queues.{queue_at, put_number, Becomes, becomes_ok, becomes_queue, becomes_other_row, becomes_other_count}
 use Rattle.queues.specs.Queues as queues

@@ -18,7 +18,7 @@ use Rattle.machines.specs.Maps.{call_map}
 use Rattle.acceptance.specs.Accepted.{FrameOk, LocalOk}
 use Rattle.configs.specs.Decode.{reply_of, frame_at}
 use Rattle.configs.specs.Encode.{map_codes, reply_code, taken}
-use Rattle.configs.specs.RoundTrip.{stack_back}
+use Rattle.configs.proofs.RoundTrip.{stack_back}
 use Rattle.configs.specs.Flat.{Flat, Sized, room_at}
 use Rattle.configs.specs.declared.Room.{Room}
 use Rattle.maps.specs.Maps.{Tables, map_at}

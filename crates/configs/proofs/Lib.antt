@@ -1,0 +1,2 @@
+-- that what is written is read back
+pub mod RoundTrip
