@@ -1,7 +1,6 @@
 -- `reading::read_line` meets its contract: the line is found, recognised, tested and taken. Assumes nothing.
 use mathlib.Core.Path.{◌∙◌}
 use native.Mathlib.Omega.{arith}
-use borrow.Author.Tests.{not-true, not-false}
 use Rattle.forms.specs.Values.{line_none}
 use Rattle.one_line.specs.Turns.{read_cut, read_formless, read_disordered}
 use Rattle.one_line.specs.Loop.{line_at}
@@ -33,7 +32,7 @@ returns-then-not-in_order c =
     let u = c.until-e.ensures in
     λ h. record {
       same = λ n. read_disordered a.s.now a.last h.lines n a.at _ u c.if-s-e.false _ (says a.s.now a.last a.at h _ u c.if-s-e.false r w c.if-row-ge44.false)
-          (ordered_told a.s.now a.last r.row r.at c.kind_of-kind.ensures c.in_order.ensures ∙ not-true _ c.if-not-in_order.true);
+          (ordered_told a.s.now a.last r.row r.at c.kind_of-kind.ensures c.in_order.ensures ∙ c.if-not-in_order.true);
       gathered = h.gathered;
     }
 
@@ -44,7 +43,7 @@ take_line-requires c =
     let w = c.form_of-form.ensures in
     let u = c.until-e.ensures in
     line_asked a.s.now a.last a.at c.requires _ u c.if-s-e.false r w c.if-row-ge44.false
-    (ordered_told a.s.now a.last r.row r.at c.kind_of-kind.ensures c.in_order.ensures ∙ not-false _ c.if-not-in_order.false)
+    (ordered_told a.s.now a.last r.row r.at c.kind_of-kind.ensures c.in_order.ensures ∙ c.if-not-in_order.false)
 
 pub returns-then-not-take_line : goal.returns-then-not-take_line
 returns-then-not-take_line c =
@@ -52,9 +51,9 @@ returns-then-not-take_line c =
     let r = c.form_of-form.result in
     let w = c.form_of-form.ensures in
     let u = c.until-e.ensures in
-    let o = ordered_told a.s.now a.last r.row r.at c.kind_of-kind.ensures c.in_order.ensures ∙ not-false _ c.if-not-in_order.false in
+    let o = ordered_told a.s.now a.last r.row r.at c.kind_of-kind.ensures c.in_order.ensures ∙ c.if-not-in_order.false in
     λ h. line_unranged a.s.now a.last a.at h _ u c.if-s-e.false r w c.if-row-ge44.false o
-    (c.take_line.ensures (line_asked a.s.now a.last a.at h _ u c.if-s-e.false r w c.if-row-ge44.false o)) (not-true _ c.if-not-take_line.true)
+    (c.take_line.ensures (line_asked a.s.now a.last a.at h _ u c.if-s-e.false r w c.if-row-ge44.false o)) (c.if-not-take_line.true)
 
 pub overflow_add-result : goal.overflow_add-result
 overflow_add-result c =
@@ -66,6 +65,6 @@ returns c =
     let r = c.form_of-form.result in
     let w = c.form_of-form.ensures in
     let u = c.until-e.ensures in
-    let o = ordered_told a.s.now a.last r.row r.at c.kind_of-kind.ensures c.in_order.ensures ∙ not-false _ c.if-not-in_order.false in
+    let o = ordered_told a.s.now a.last r.row r.at c.kind_of-kind.ensures c.in_order.ensures ∙ c.if-not-in_order.false in
     λ h. line_read a.s.now a.last a.at h _ u c.if-s-e.false r w c.if-row-ge44.false o (c.kind_of-kind.ensures a.s.now r.at)
-    (c.take_line.ensures (line_asked a.s.now a.last a.at h _ u c.if-s-e.false r w c.if-row-ge44.false o)) (not-false _ c.if-not-take_line.false)
+    (c.take_line.ensures (line_asked a.s.now a.last a.at h _ u c.if-s-e.false r w c.if-row-ge44.false o)) (c.if-not-take_line.false)

@@ -8,9 +8,9 @@ use Rattle.taking.proofs.bits_at.Goals as goal
 pub returns-then-row-eq42 : goal.returns-then-row-eq42
 returns-then-row-eq42 c x e =
     let a = c.args in
-    c.number_at.ensures ∙ ap (λ (n : ℕ). min n CAP) (with_bits a.s.now a.t3 a.row x c.if-row-eq42.true e)
+    c.number_at.ensures ∙ ap (λ (n : ℕ). min n CAP) (with_bits a.s.now a.places a.row x c.if-row-eq42.true e)
 
 pub returns-else-row-eq42 : goal.returns-else-row-eq42
 returns-else-row-eq42 c x e =
     let a = c.args in
-    ap (λ (n : ℕ). min n CAP) (without_bits a.s.now a.t3 a.row x c.requires c.if-row-eq42.false e)
+    ap (λ (n : ℕ). min n CAP) (without_bits a.s.now a.places a.row x c.requires c.if-row-eq42.false e)

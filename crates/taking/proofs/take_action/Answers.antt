@@ -1,7 +1,6 @@
 -- `taking::take_action` meets its contract: the own number is tested by how many there are. Assumes nothing.
 use mathlib.Core.Path.{refl, sym, ◌∙◌}
 use native.Mathlib.Omega.{arith}
-use borrow.Author.Tests.{not-true, not-false}
 use Rattle.programs.specs.Sizes.{ACTIONS}
 use Rattle.spoken.specs.Counted.{next_told}
 use Rattle.spoken.specs.Took.{took, refused}
@@ -16,19 +15,19 @@ overflow_cast-n c = omega (arith, actions_few c.requires)
 pub returns-then-not-is_next : goal.returns-then-not-is_next
 returns-then-not-is_next c h i x e =
     let a = c.args in
-    let told = next_told ACTIONS (omega arith) (actions_count h) (action_says a.s.now a.t2 i x e).0 c.number_at.ensures c.is_next.ensures in
-    refused (sym told ∙ not-true _ c.if-not-is_next.true) (refl, refl)
+    let told = next_told ACTIONS (omega arith) (actions_count h) (action_says a.s.now a.places i x e).0 c.number_at.ensures c.is_next.ensures in
+    refused (sym told ∙ c.if-not-is_next.true) (refl, refl)
 
 pub put_action-requires : goal.put_action-requires
 put_action-requires c =
-    action_room c.requires _ c.is_next.ensures (not-false _ c.if-not-is_next.false)
+    action_room c.requires _ c.is_next.ensures (c.if-not-is_next.false)
 
 pub returns : goal.returns
 returns c h i x e =
     let a = c.args in
-    let says = action_says a.s.now a.t2 i x e in
+    let says = action_says a.s.now a.places i x e in
     let told = next_told ACTIONS (omega arith) (actions_count h) says.0 c.number_at.ensures c.is_next.ensures in
-    let yes = not-false _ c.if-not-is_next.false in
+    let yes = c.if-not-is_next.false in
     took (sym told ∙ yes)
     (action_put (action_room h _ c.is_next.ensures yes) x
-    (byte_written says.1.0 c.number_at-2.ensures c.byte_of.ensures) (word_written says.1.1 c.number_at-3.ensures c.word_of.ensures) c.put_action.ensures)
+    (byte_written says.1.0 c.number_at-2.ensures c.byte_of.ensures) (word_written says.1.1 c.number_at-3.ensures c.word_of.ensures) (c.put_action.ensures.kinds_after, c.put_action.ensures.bodies_after))

@@ -8,4 +8,4 @@ use Rattle.taking.proofs.take_start.Goals as goal
 pub returns : goal.returns
 returns c k e =
     let a = c.args in
-    ap (λ (n : ℕ). 1 + n) (sym (byte_written (start_says a.s.now a.t2 k e) c.number_at.ensures c.byte_of.ensures))
+    ap (λ (n : ℕ). 1 + n) (sym (byte_written (start_says a.s.now a.places k e) c.number_at.ensures c.byte_of.ensures))

@@ -2,7 +2,6 @@
 use Prim.Native.Nat.{◌-◌}
 use mathlib.Core.Path.{refl, sym, ◌∙◌}
 use native.Mathlib.Omega.{arith}
-use borrow.Author.Tests.{not-true, not-false}
 use mir.Syntax.{w64}
 use mir.Facts.{to_z-of_z}
 use Rattle.spoken.specs.Spoken.{integer_at}
@@ -11,39 +10,39 @@ use Rattle.taking_exprs.specs.Held.{exprs_few, expr_room, form, expr_late, expr_
 use Rattle.taking_exprs.proofs.take_expr.Goals as goal
 
 pub overflow_cast-n : goal.overflow_cast-n
-overflow_cast-n c = omega (arith, exprs_few c.requires.0)
+overflow_cast-n c = omega (arith, exprs_few c.requires.expr_held)
 
 pub returns-then-not-is_next : goal.returns-then-not-is_next
 returns-then-not-is_next c h i b e q =
-    expr_late h _ _ _ c.requires.1.0 c.requires.1.1 q c.number_at.ensures (sym c.is_next.ensures ∙ not-true _ c.if-not-is_next.true) refl
+    expr_late h _ _ _ c.requires.le_row.0 c.requires.le_row.1 q c.number_at.ensures (sym c.is_next.ensures ∙ c.if-not-is_next.true) refl
 
 pub take_int-requires : goal.take_int-requires
 take_int-requires c =
-    expr_room c.requires.0 _ (sym c.is_next.ensures ∙ not-false _ c.if-not-is_next.false)
+    expr_room c.requires.expr_held _ (sym c.is_next.ensures ∙ c.if-not-is_next.false)
 
 pub returns-then-row-eq16 : goal.returns-then-row-eq16
 returns-then-row-eq16 c h i b e q =
-    let t = sym c.is_next.ensures ∙ not-false _ c.if-not-is_next.false in
-    expr_valued h _ _ _ c.requires.1.0 c.requires.1.1 q c.number_at.ensures t (int_says _ _ (rw c.if-row-eq16.true at q))
-    (c.take_int.ensures (expr_room h _ t) _ (to_z-of_z {w = w64} (record { sfits = c.hold_val_at.type-inv }) ∙ c.hold_val_at.ensures))
+    let t = sym c.is_next.ensures ∙ c.if-not-is_next.false in
+    expr_valued h _ _ _ c.requires.le_row.0 c.requires.le_row.1 q c.number_at.ensures t (int_says _ _ (rw c.if-row-eq16.true at q))
+    (c.take_int.ensures (expr_room h _ t) _ (to_z-of_z {w = w64} (record { sfits = c.val_at.type_inv }) ∙ c.val_at.ensures))
 
 pub take_bool-requires : goal.take_bool-requires
 take_bool-requires c =
-    expr_room c.requires.0 _ (sym c.is_next.ensures ∙ not-false _ c.if-not-is_next.false)
+    expr_room c.requires.expr_held _ (sym c.is_next.ensures ∙ c.if-not-is_next.false)
 
 pub returns-then-row-eq17 : goal.returns-then-row-eq17
 returns-then-row-eq17 c h i b e q =
-    let t = sym c.is_next.ensures ∙ not-false _ c.if-not-is_next.false in
-    expr_valued h _ _ _ c.requires.1.0 c.requires.1.1 q c.number_at.ensures t (bool_says _ _ (rw c.if-row-eq17.true at q))
-    (c.take_bool.ensures (expr_room h _ t) (integer_at c.args.s.now c.args.t3 1) (to_z-of_z {w = w64} (record { sfits = c.val_at-then-row-eq17.type_inv }) ∙ c.val_at-then-row-eq17.ensures))
+    let t = sym c.is_next.ensures ∙ c.if-not-is_next.false in
+    expr_valued h _ _ _ c.requires.le_row.0 c.requires.le_row.1 q c.number_at.ensures t (bool_says _ _ (rw c.if-row-eq17.true at q))
+    (c.take_bool.ensures (expr_room h _ t) (integer_at c.args.s.now c.args.places 1) (to_z-of_z {w = w64} (record { sfits = c.val_at-then-row-eq17.type_inv }) ∙ c.val_at-then-row-eq17.ensures))
 
 pub put_plain-requires : goal.put_plain-requires
 put_plain-requires c =
-    (expr_room c.requires.0 _ (sym c.is_next.ensures ∙ not-false _ c.if-not-is_next.false), c.requires.1)
+    record { expr_room = expr_room c.requires.expr_held _ (sym c.is_next.ensures ∙ c.if-not-is_next.false); le_row = c.requires.le_row }
 
 pub returns : goal.returns
 returns c h i b e q =
-    let t = sym c.is_next.ensures ∙ not-false _ c.if-not-is_next.false in
+    let t = sym c.is_next.ensures ∙ c.if-not-is_next.false in
     let p = plain_says _ _ (c.args.row - 10) (omega arith) (λ k. c.if-row-eq16.false (omega arith)) (λ k. c.if-row-eq17.false (omega arith))
-    (form h _ _ _ c.requires.1.0 c.requires.1.1 q) in
-    expr_plain h _ _ _ c.requires.1.0 c.requires.1.1 q c.number_at.ensures t p (c.put_plain.ensures (expr_room h _ t) e p.row)
+    (form h _ _ _ c.requires.le_row.0 c.requires.le_row.1 q) in
+    expr_plain h _ _ _ c.requires.le_row.0 c.requires.le_row.1 q c.number_at.ensures t p (c.put_plain.ensures (expr_room h _ t) e p.row)

@@ -28,7 +28,10 @@ returns-then-row-eq36 c =
 pub take_state-requires : goal.take_state-requires
 take_state-requires c =
     let h = c.requires in
-    (record { rows = state_lines h.lines; held = h.back.states.held; few = h.back.states.size }, h.listed c.if-row-eq37.true)
+    record {
+      state_held = record { rows = state_lines h.lines; held = h.back.states.held; few = h.back.states.size };
+      places_value = h.listed c.if-row-eq37.true;
+    }
 
 pub returns-then-row-eq37 : goal.returns-then-row-eq37
 returns-then-row-eq37 c =
@@ -66,10 +69,11 @@ returns-then-row-eq41 c =
 
 pub take_choice-requires : goal.take_choice-requires
 take_choice-requires c =
-    let h = c.requires in (
-      record { rows = choice_lines h.lines; held = h.back.chosen.held; count = sym h.back.chosen.many },
-      (omega (arith, c.if-row-le40.false, c.if-row-eq41.false), omega (arith, h.row_low)),
-    )
+    let h = c.requires in
+    record {
+      choice_held = record { rows = choice_lines h.lines; held = h.back.chosen.held; count = sym h.back.chosen.many };
+      le_row = (omega (arith, c.if-row-le40.false, c.if-row-eq41.false), omega (arith, h.row_low));
+    }
 
 pub returns : goal.returns
 returns c =

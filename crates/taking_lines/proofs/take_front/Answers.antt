@@ -27,10 +27,13 @@ returns-then-row-eq5 c =
 pub take_variable-requires : goal.take_variable-requires
 take_variable-requires c =
     let h = c.requires in
-    let f = h.front in (
-      variables_there h.lines f,
-      ((omega (arith, c.if-row-le4.false, c.if-row-eq5.false), c.if-row-le9.true), (omega (arith, f.machines.held, f.machines.size), h.few)),
-    )
+    let f = h.front in
+    record {
+      variables = variables_there h.lines f;
+      le_row = (omega (arith, c.if-row-le4.false, c.if-row-eq5.false), c.if-row-le9.true);
+      kinds_bound = omega (arith, f.machines.held, f.machines.size);
+      variables_bound = h.few;
+    }
 
 pub returns-then-row-le9 : goal.returns-then-row-le9
 returns-then-row-le9 c =

@@ -25,6 +25,6 @@ pub returns : goal.returns
 returns c h =
     let can = c.deferrable-can.ensures ∙ ap (λ l. all (there EVENTS) (list_of l)) c.field.ensures in
     record {
-      states = state_put (row_room h) _ (kind_told h can c.home.ensures) (sym c.operand.ensures) (sym c.operand-2.ensures) c.put_state.ensures;
+      states = state_put (row_room h) _ (kind_told h can c.home.ensures) (sym c.operand.ensures) (sym c.operand-2.ensures) (let w = c.put_state.ensures in (w.kinds_after, (w.entries_after, w.exits_after)));
       defers = c.put_flags.ensures (flag_room h can) _ refl;
     }
