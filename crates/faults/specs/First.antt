@@ -1,9 +1,10 @@
 -- The first number that does not pass a test: what a pass looks for that tests numbers, and not the rows of a program. It is the first fault of a table of
 -- nothing but its length. Nothing here is of the document.
-use Rattle.std.specs.Prelude.{ℕ, suc, ◌+◌, ◌-◌, ◌≤◌, ◌<◌, ◌≡◌, refl, Bool, true, false, List, [], ◌∷◌, length, get_or, replicate}
+use Rattle.std.specs.Prelude.{ℕ, suc, ◌+◌, ◌-◌, ◌≤◌, ◌<◌, ◌≡◌, refl, Bool, true, false, not, List, [], ◌∷◌, length, get_or, replicate}
 use Rattle.std.proofs.Math.Path.{sym}
 use Rattle.std.proofs.Common.{◌∙◌}
 use native.Mathlib.Omega.{arith}
+use Rattle.std.proofs.lemmas.Bool.{not-true, not-false}
 use Rattle.std.proofs.Math.ListN.{length-replicate}
 use Rattle.lists.specs.Facts.{range_more}
 use Rattle.lists.specs.Lists.{at, There}
@@ -21,12 +22,12 @@ first_bad good n = row_fault (asked good) (replicate n tt)
 
 -- A TEST THAT IS ANSWERED
 -- no,
-pub told_no : {r t : Bool} → r ≡ t → r ≡ false → t ≡ false
-told_no e h = sym e ∙ h
+pub told_no : {r t : Bool} → r ≡ t → not r ≡ true → t ≡ false
+told_no {r = r} e h = sym e ∙ not-true r h
 
 -- or yes
-pub told_yes : {r t : Bool} → r ≡ t → r ≡ true → t ≡ true
-told_yes e h = sym e ∙ h
+pub told_yes : {r t : Bool} → r ≡ t → not r ≡ false → t ≡ true
+told_yes {r = r} e h = sym e ∙ not-false r h
 
 -- THE LOOP that looks for it: it has come to number i, and those before it pass
 pub record Seeking (good : ℕ → Bool) (n i : ℕ) : Type 0 where
@@ -55,11 +56,11 @@ module _ {good : ℕ → Bool} {n i : ℕ} (s : Seeking good n i) where
       sym (row_first (asked good) tt (replicate n tt) (i - 1) (omega (arith, s.low, length-replicate {A = Unit {0}} n tt)) (λ j t. s.clear j t.0 (omega (arith, t.1))) (rw e g) ∙ e)
 
   -- one whose test is answered yes,
-  pub seek_yes : {r : Bool} → i ≤ n → r ≡ good i → r ≡ true → Seeking good n (i + 1)
+  pub seek_yes : {r : Bool} → i ≤ n → r ≡ good i → not r ≡ false → Seeking good n (i + 1)
   seek_yes h e k = seek_more h (told_yes e k)
 
   -- or no
-  pub seek_no : {r : Bool} → i ≤ n → r ≡ good i → r ≡ false → i ≡ first_bad good n
+  pub seek_no : {r : Bool} → i ≤ n → r ≡ good i → not r ≡ true → i ≡ first_bad good n
   seek_no h e k = seek_found h (told_no e k)
 
   -- none

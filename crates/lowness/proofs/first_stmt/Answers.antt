@@ -1,4 +1,6 @@
 -- `lowness::first_stmt` meets its contract: those before the one that it has come to pass.
+use mathlib.Core.Path.{ap}
+use mathlib.Core.Bool.{not}
 use Rattle.faults.specs.First.{seek_first, seek_yes, seek_no, seek_none}
 use native.Mathlib.Omega.{arith}
 use Rattle.lowness.proofs.first_stmt.Goals as goal
@@ -13,11 +15,11 @@ low_stmt-requires c =
 
 pub returns-then-not-low_stmt : goal.returns-then-not-low_stmt
 returns-then-not-low_stmt c =
-    (seek_no c.loop-s.invariant c.loop-s-test.true c.low_stmt.ensures c.if-not-low_stmt.true, c.loop-s-test.true)
+    (seek_no c.loop-s.invariant c.loop-s-test.true c.low_stmt.ensures (ap not c.if-not-low_stmt.true), c.loop-s-test.true)
 
 pub loop-s-preserved : goal.loop-s-preserved
 loop-s-preserved c =
-    seek_yes c.loop-s.invariant c.loop-s-test.true c.low_stmt.ensures c.if-not-low_stmt.false
+    seek_yes c.loop-s.invariant c.loop-s-test.true c.low_stmt.ensures (ap not c.if-not-low_stmt.false)
 
 pub returns : goal.returns
 returns c = (seek_none c.loop-s.invariant c.loop-s-test.false, omega arith)
