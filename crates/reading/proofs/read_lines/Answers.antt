@@ -1,5 +1,4 @@
 -- `reading::read_lines` meets its contract: after each turn the arrays hold the lines so far. Assumes nothing.
-use Prim.Native.Nat.{◌-◌}
 use native.Mathlib.Omega.{arith}
 use Rattle.reading.specs.Whole.{reading_none, turn_asked, reading_refused, reading_turned, reading_more, reading_startless, reading_whole}
 use Rattle.reading.proofs.read_lines.Goals as goal
