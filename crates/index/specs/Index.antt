@@ -35,6 +35,6 @@ pub record Placed (variables : List Variable) (places : List ℕ) : Type 0 where
   pub place : (x : ℕ) → There (length variables) x → get_or places x 0 ≡ place_in variables x
   pub none : (x : ℕ) → (There (length variables) x → ⊥) → get_or places x 0 ≡ 0
 
--- `places` holds the place of each of the program's variables: place p (variableAt p x).of x
+-- `places` holds the place of each of the program's variables: place p (variable_at p x).of x
 abbrev pub Places : Program → List ℕ → Type 0
 Places p places = Placed p.variables places

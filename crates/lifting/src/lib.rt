@@ -2,7 +2,7 @@
 #![tactic(auto)]
 
 ghost use Rattle.std.specs.Prelude.{◌≡◌, ◌<◌, length};
-ghost use Rattle.configs.specs.Flat.{flat, Sized, room_at, held as heldBy};
+ghost use Rattle.configs.specs.Flat.{flat, Sized, room_at, held as held_by};
 ghost use Rattle.lifting.specs.Lifting.{Lifted};
 
 use configs::{Config, Room};
@@ -138,7 +138,7 @@ pub fn lift(
     pairs: &[u64; Program::ROOMS * Program::QUEUE],
 ) -> Config
     requires { Sized (flat ids.now kinds.now depths.now states.now maps.now values.now counts.now parts.now held.now waiting.now pairs.now next) }
-    ensures { result ≡ heldBy (flat ids.now kinds.now depths.now states.now maps.now values.now counts.now parts.now held.now waiting.now pairs.now next) }
+    ensures { result ≡ held_by (flat ids.now kinds.now depths.now states.now maps.now values.now counts.now parts.now held.now waiting.now pairs.now next) }
 {
     let first = lift_room(
         0, ids, kinds, depths, states, maps, values, counts, parts, held, waiting, pairs,
