@@ -1,5 +1,6 @@
 -- `taking_exprs::val_at` meets its contract. Assumes nothing.
 use mathlib.Core.Path.{ap, sym, ◌∙◌}
+use Rattle.std.proofs.Common.{rules}
 use lib.ListN.{drop}
 use mir.Syntax.{w64}
 use mir.Facts.{to_z-of_z}
@@ -17,5 +18,5 @@ returns-in-Not c =
 pub returns-in-Is : goal.returns-in-Is
 returns-in-Is c =
     let a = c.args in
-    to_z-of_z {w = w64} (record { sfits = c.in-Is.known_told-1-own.given.0.1 }) ∙ (integer_there (signed (word (drop a.at a.s.now))) _
+    to_z-of_z {w = w64} (search rules) ∙ (integer_there (signed (word (drop a.at a.s.now))) _
     (sym (ap (λ l. capped_int (signed l)) c.field.ensures) ∙ sym c.signed.ensures ∙ c.in-Is.is)).1
