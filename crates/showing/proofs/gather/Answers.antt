@@ -1,21 +1,20 @@
 -- `showing::gather` meets its contract: a room a turn. Assumes nothing.
 use Prim.Native.Nat.{◌-◌}
 use mathlib.Core.Path.{◌≡◌}
-use mathlib.Core.Logic.{⊎_elim}
 use native.Mathlib.Omega.{arith}
 use borrow.Author.Rules.{rules}
 use lib.ListN.{length}
 use Rattle.rows.specs.Front.{length_mapped}
 use Rattle.showing.specs.Gathering.{gathered_none, gathered_free, gathered_taken, gathered_all}
 use Rattle.showing.proofs.gather.Goals as goal
-use Rattle.showing.proofs.gather.Goals.{Start}
+use Rattle.showing.proofs.gather.Goals.{Start, then-this-ne0, else-this-ne0}
 
 -- a configuration has 32 rooms
-full : (s : Start) → length s.args.t1.rooms ≡ 32
+full : (s : Start) → length s.args.c.rooms ≡ 32
 full s = search (length_mapped, rules)
 
 pub loop-k-init : goal.loop-k-init
-loop-k-init c = gathered_none c.args.t1.rooms (full (goal.at.loop-k-init c).Start)
+loop-k-init c = gathered_none c.args.c.rooms (full (goal.at.loop-k-init c).Start)
 
 pub offset_bounds-c-k : goal.offset_bounds-c-k
 offset_bounds-c-k c = omega (arith, c.loop-k-test.true)
@@ -25,10 +24,10 @@ bounds-c-k c = c.loop-k-test.true
 
 pub loop-k-preserved : goal.loop-k-preserved
 loop-k-preserved c =
-    ⊎_elim
-    (λ w. rw (w.1, w.2) (gathered_taken c.loop-k.invariant _ c.loop-k-test.true w.0.taken))
-    (λ w. rw (w.1, w.2) (gathered_free c.loop-k.invariant _ c.loop-k-test.true w.0.left))
-    c.if-this-ne0.branch
+    elim c.if-this-ne0.branch [
+      | then-this-ne0 w ↦ rw (w.machines-is, w.n-is) (gathered_taken c.loop-k.invariant _ c.loop-k-test.true w.if-this-ne0.true)
+      | else-this-ne0 w ↦ rw (w.machines-is, w.n-is) (gathered_free c.loop-k.invariant _ c.loop-k-test.true w.if-this-ne0.false)
+    ]
 
 pub returns : goal.returns
 returns c p = gathered_all c.loop-k.invariant c.loop-k-test.false p

@@ -22,15 +22,15 @@ abbrev sought : Option Machine → Shown
 sought o = on_opt o (answering UnableToStep) shown
 
 -- a configuration has 32 rooms
-full : (s : Start) → length s.args.t2.rooms ≡ 32
+full : (s : Start) → length s.args.c.rooms ≡ 32
 full s = search (length_mapped, rules)
 
 pub returns-then-i-eq0 : goal.returns-then-i-eq0
 returns-then-i-eq0 c =
-    c.answering.ensures ∙ rw (c.if-i-eq0.true, find_zero (program_of c.args.program) c.args.t2.rooms)
+    c.answering.ensures ∙ rw (c.if-i-eq0.true, find_zero (program_of c.args.program) c.args.c.rooms)
 
 pub loop-k-init : goal.loop-k-init
-loop-k-init c = seeking_none (program_of c.args.program) c.args.t2.rooms c.args.i (full (goal.at.loop-k-init c).Start)
+loop-k-init c = seeking_none (program_of c.args.program) c.args.c.rooms c.args.i (full (goal.at.loop-k-init c).Start)
 
 pub offset_bounds-c-k : goal.offset_bounds-c-k
 offset_bounds-c-k c = omega (arith, c.loop-k-test.true)
@@ -40,7 +40,7 @@ bounds-c-k c = c.loop-k-test.true
 
 pub look_in-requires : goal.look_in-requires
 look_in-requires c =
-    room_stands c.args.program c.args.t2 c.requires _ c.loop-k.k (omega (arith, c.loop-k-test.true, full (goal.at.look_in-requires c).Start)) (λ z. c.if-i-eq0.false (sym c.if-room-i.true ∙ z))
+    room_stands c.args.program c.args.c c.requires _ c.loop-k.k (omega (arith, c.loop-k-test.true, full (goal.at.look_in-requires c).Start)) (λ z. c.if-i-eq0.false (sym c.if-room-i.true ∙ z))
 
 pub returns-then-room-i : goal.returns-then-room-i
 returns-then-room-i c =

@@ -6,4 +6,4 @@ pub returns-then-depth-eq0 : goal.returns-then-depth-eq0
 returns-then-depth-eq0 c p maps = rw c.if-depth-eq0.true
 
 pub returns : goal.returns
-returns c p maps = top_at p c.args.t2 maps c.args.depth c.if-depth-eq0.false
+returns c p maps = top_at p c.args.states maps c.args.depth c.if-depth-eq0.false
