@@ -1,19 +1,18 @@
 -- `running::run` meets its contract: a program that is not sound is refused. Assumes nothing.
 use mathlib.Core.Path.{ap, sym, ◌∙◌}
 use borrow.Author.Rules.{rules}
-use borrow.Author.Tests.{not-false, not-true}
 use Rattle.soundness.specs.Sound.{sound_is}
 use Rattle.running.specs.Running.{ran_with, run_unsound}
 use Rattle.running.proofs.run.Goals as goal
 
 pub returns-then-not-sound : goal.returns-then-not-sound
 returns-then-not-sound c =
-    let stops = run_unsound c.args.program c.args.c _ _ (sym c.sound.ensures ∙ not-true _ c.if-not-sound.true) in
+    let stops = run_unsound c.args.program c.args.c _ _ (sym c.sound.ensures ∙ c.if-not-sound.true) in
     (ap (ran_with c.args.c) c.stopped.ensures ∙ stops.ran, stops.rules)
 
 pub run_sound-requires : goal.run_sound-requires
 run_sound-requires c =
-    (sound_is _).holds (sym c.sound.ensures ∙ not-false _ c.if-not-sound.false)
+    (sound_is _).holds (sym c.sound.ensures ∙ c.if-not-sound.false)
 
 pub returns : goal.returns
 returns c = (c.run_sound.ensures.ran, c.run_sound.ensures.rules)

@@ -1,4 +1,6 @@
 -- `running::run_laid` meets its contract: what lies in the arrays is tested, the choices are counted, and it is run. Assumes nothing.
+use mathlib.Core.Path.{ap}
+use mathlib.Core.Bool.{not}
 use borrow.Author.Rules.{rules}
 use Rattle.stepping.specs.Stepping.{passed}
 use Rattle.running.specs.Running.{left_unaccepted, left_long, left_run}
@@ -9,17 +11,17 @@ admitted-requires c = c.requires.laid
 
 pub returns-then-not-admitted : goal.returns-then-not-admitted
 returns-then-not-admitted c =
-    left_unaccepted c.args.program _ _ _ c.requires.laid c.admitted.ensures c.if-not-admitted.true c.stopped.ensures
+    left_unaccepted c.args.program _ _ _ c.requires.laid c.admitted.ensures (ap not c.if-not-admitted.true) c.stopped.ensures
 
 pub returns-then-count-gt-CHOICES : goal.returns-then-count-gt-CHOICES
 returns-then-count-gt-CHOICES c =
-    left_long c.args.program _ _ _ c.requires.laid c.admitted.ensures c.if-not-admitted.false c.if-count-gt-CHOICES.true c.stopped-then-count-gt-CHOICES.ensures
+    left_long c.args.program _ _ _ c.requires.laid c.admitted.ensures (ap not c.if-not-admitted.false) c.if-count-gt-CHOICES.true c.stopped-then-count-gt-CHOICES.ensures
 
 pub run_accepted-requires : goal.run_accepted-requires
 run_accepted-requires c =
     record {
       laid = c.requires.laid;
-      one = passed _ c.admitted.ensures c.if-not-admitted.false;
+      one = passed _ c.admitted.ensures (ap not c.if-not-admitted.false);
       inside = search rules;
       few = c.if-count-gt-CHOICES.false;
       room = c.requires.room;
@@ -27,4 +29,4 @@ run_accepted-requires c =
 
 pub returns : goal.returns
 returns c =
-    left_run c.args.program _ _ _ c.requires.laid c.admitted.ensures c.if-not-admitted.false c.if-count-gt-CHOICES.false c.run_accepted.ensures
+    left_run c.args.program _ _ _ c.requires.laid c.admitted.ensures (ap not c.if-not-admitted.false) c.if-count-gt-CHOICES.false c.run_accepted.ensures
