@@ -20,7 +20,7 @@ use Rattle.codes.specs.Codes.{code_of}
 use Rattle.configs.specs.declared.Room.{Room}
 use Rattle.configs.specs.declared.Config.{Config as Held}
 use Rattle.configs.specs.Decode.{machine_of, room_of}
-use Rattle.configs.specs.Encode.{map_codes, held_code, pair_number, free, room_code, written, Zeroed}
+use Rattle.configs.specs.Encode.{map_codes, held_code, pair_number, free, room_code, Zeroed}
 use Rattle.configs.specs.Flat.{Flat, room_at, held, flat_config, room_path}
 
 -- ROOM k is accepted, and writing what it reads as gives it again

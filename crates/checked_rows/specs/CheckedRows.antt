@@ -5,7 +5,7 @@ use Rattle.std.proofs.Common.{ap, sym, ◌∙◌, inl, inr, ⊎_elim, true≢fal
 use Rattle.std.proofs.Math.Logic.{dite}
 use Rattle.std.proofs.Math.Decide.{ℕ_discrete}
 use Rattle.std.proofs.lemmas.Bool.{not-true}
-use Rattle.lists.specs.Lists.{at, is_some, All, There}
+use Rattle.lists.specs.Lists.{is_some, All, There}
 use Rattle.lists.specs.Tells.{Tells, form, isnt, at_most_lem}
 use Rattle.rows.specs.Pad.{pad}
 use Rattle.rows.specs.Part.{part, part_length}

@@ -1,6 +1,5 @@
 -- `accepting::accepted_on` meets its contract: the loop has found every room before the k-th as it should be.
 use mathlib.Core.Path.{◌≡◌, refl}
-use Prim.Native.Nat.{◌-◌}
 use native.Mathlib.Omega.{arith}
 use borrow.Author.Count.{below_more}
 use Rattle.configs.specs.Flat.{flat}

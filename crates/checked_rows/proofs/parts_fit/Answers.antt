@@ -1,6 +1,6 @@
 -- `checked_rows::parts_fit` meets its contract: after j turns the first j parts fit. Assumes nothing.
 use mathlib.Core.Path.{◌≡◌}
-use Prim.Native.Nat.{◌+◌, ◌<◌, ◌-◌}
+use Prim.Native.Nat.{◌+◌, ◌<◌}
 use lib.ListN.{get_or}
 use Rattle.lists.specs.Tells.{granted, refuted, denied}
 use borrow.Author.Count.{below_more}

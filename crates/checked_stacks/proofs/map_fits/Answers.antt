@@ -1,6 +1,6 @@
 -- `checked_stacks::map_fits` meets its contract: after e turns the first e entries fit. Assumes nothing.
 use mathlib.Core.Path.{◌≡◌}
-use Prim.Native.Nat.{◌+◌, ◌<◌, ◌-◌}
+use Prim.Native.Nat.{◌+◌, ◌<◌}
 use lib.ListN.{get_or}
 use Rattle.lists.specs.Tells.{form, refuted, denied}
 use borrow.Author.Count.{below_more}

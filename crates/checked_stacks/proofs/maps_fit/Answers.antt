@@ -1,6 +1,6 @@
 -- `checked_stacks::maps_fit` meets its contract: after d turns the first d maps fit. Assumes nothing.
 use mathlib.Core.Path.{◌≡◌}
-use Prim.Native.Nat.{◌+◌, ◌*◌, ◌<◌, ◌-◌}
+use Prim.Native.Nat.{◌+◌, ◌*◌, ◌<◌}
 use Rattle.lists.specs.Tells.{form, refuted, denied}
 use borrow.Author.Count.{below_more}
 use Rattle.checked_stacks.specs.CheckedStacks.{MapFits}

@@ -1,6 +1,6 @@
 -- `checked_stacks::states_fit` meets its contract: after d turns the first d states fit. Assumes nothing.
 use mathlib.Core.Path.{◌≡◌}
-use Prim.Native.Nat.{◌+◌, ◌<◌, ◌-◌}
+use Prim.Native.Nat.{◌+◌, ◌<◌}
 use lib.ListN.{get_or}
 use Rattle.lists.specs.Tells.{form, refuted, denied}
 use borrow.Author.Count.{below_more}

@@ -1,5 +1,4 @@
 -- `checked_variables::kind_count` meets its contract: after x variables, j were of the kind. Assumes nothing.
-use Prim.Native.Nat.{◌-◌}
 use mathlib.Core.Path.{sym, ◌∙◌}
 use borrow.Author.Tests.{eq-eqb, ne_eqb}
 use Rattle.tables.specs.Decode.{variables_of}

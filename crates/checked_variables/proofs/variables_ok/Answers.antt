@@ -1,11 +1,11 @@
 -- `checked_variables::variables_ok` meets its contract: after x variables, of which j were of the kind, the rest is left to be asked. Assumes nothing.
-use Prim.Native.Nat.{ℕ, ◌+◌, ◌-◌, ◌<◌, ◌≤◌}
+use Prim.Native.Nat.{ℕ, ◌+◌, ◌<◌, ◌≤◌}
 use mathlib.Core.Path.{◌≡◌, sym, ◌∙◌}
 use mathlib.Core.Bool.{true, true≢false}
 use mathlib.Core.List.{List}
 use borrow.Author.Tests.{eq-eqb, ne_eqb}
 use lib.Dec.{eqb}
-use lib.ListN.{length, get_or}
+use lib.ListN.{length}
 use Rattle.lists.specs.Lists.{at, keep}
 use Rattle.lists.specs.Tells.{granted, refuted}
 use Rattle.rows.specs.Part.{part, part_length}

@@ -1,5 +1,4 @@
 -- `distinct::distinct_ok` meets its contract: after i turns each of the first i rooms is free or has a number that no later one holds. Assumes nothing.
-use Prim.Native.Nat.{◌-◌}
 use Rattle.lists.specs.Tells.{granted, refuted, denied}
 use borrow.Author.Count.{below_more}
 use Rattle.distinct.specs.Distinct.{Single, distinct_told}

@@ -1,6 +1,6 @@
 -- `distinct::single` meets its contract: after the turns up to j no room between i and j holds its number. Assumes nothing.
 use mathlib.Core.Path.{◌≡◌}
-use Prim.Native.Nat.{◌<◌, ◌-◌}
+use Prim.Native.Nat.{◌<◌}
 use lib.ListN.{get_or}
 use Rattle.lists.specs.Tells.{granted, refuted}
 use borrow.Author.Count.{below_more}

@@ -1,6 +1,5 @@
 -- `looping::run_on` meets its contract: after k turns the arrays hold the configuration after k steps of the run, and the rules of these steps are written.
 -- Assumes nothing.
-use Prim.Native.Nat.{◌-◌}
 use native.Mathlib.Omega.{arith}
 use Rattle.looping.specs.Looping.{going_none, turn_asked, going_took, going_refused, going_done}
 use Rattle.looping.proofs.run_on.Goals as goal

@@ -1,7 +1,6 @@
 -- `looping::run_on` meets its contract: after k turns the arrays hold the configuration after k steps of the run, and the rules of these steps are written.
 -- Assumes nothing.
 use Prim.Native.Nat.{◌-◌, ◌≤◌}
-use borrow.Author.Rules.{rules}
 use Rattle.configs.specs.Flat.{flat}
 use Rattle.looping.specs.Looping.{RunAsked, GoingOn}
 use Rattle.looping.proofs.run_on.Given as goal

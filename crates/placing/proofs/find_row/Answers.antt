@@ -1,5 +1,4 @@
 -- `placing::find_row` meets its contract: no row that was passed is the machine's. Assumes nothing.
-use Prim.Native.Nat.{◌-◌}
 use mathlib.Core.Path.{◌≡◌}
 use borrow.Author.Count.{below_more}
 use native.Mathlib.Omega.{arith}

@@ -1,5 +1,4 @@
 -- `placing::lowest_row` meets its contract: of the rows that were passed it is the one with the least number. Assumes nothing.
-use Prim.Native.Nat.{◌-◌}
 use mathlib.Core.Path.{◌≡◌}
 use Rattle.placing.specs.Closing.{lowest_first, lowest_new, lowest_old}
 use native.Mathlib.Omega.{arith}

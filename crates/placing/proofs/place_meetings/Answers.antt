@@ -1,5 +1,4 @@
 -- `placing::place_meetings` meets its contract: before each place, what is written and what is not yet placed make the regrouped list. Assumes nothing.
-use Prim.Native.Nat.{◌-◌}
 use mathlib.Core.Path.{◌≡◌, sym, ◌∙◌}
 use Rattle.placing.specs.Closing.{same_machine}
 use Rattle.placing.specs.Weaving.{begin_weaving, private_turn, meeting_room, meeting_turn}

@@ -1,7 +1,6 @@
 -- `placing::place_meetings` meets its contract: before each place, what is written and what is not yet placed make the regrouped list. Assumes nothing.
 use Prim.Native.Nat.{◌-◌}
 use Rattle.placing.specs.Weaving.{Weaving}
-use borrow.Author.Rules.{rules}
 use Rattle.placing.proofs.place_meetings.Given as goal
 
 abbrev pub invariant-loop-i : goal.invariant-loop-i

@@ -1,5 +1,5 @@
 -- `placing::write_part` meets its contract: the machine's choices are written up to the place that the loop has come to. Assumes nothing.
-use Prim.Native.Nat.{◌<◌, ◌-◌}
+use Prim.Native.Nat.{◌<◌}
 use mathlib.Core.Path.{◌≡◌, sym, ◌∙◌}
 use lib.ListN.{length}
 use Rattle.placing.specs.Written.{begins, passes, puts, fits}

@@ -1,6 +1,5 @@
 -- `running::run` meets its contract: a program that is not sound is refused. Assumes nothing.
 use mathlib.Core.Path.{ap, sym, ◌∙◌}
-use borrow.Author.Rules.{rules}
 use Rattle.soundness.specs.Sound.{sound_is}
 use Rattle.running.specs.Running.{ran_with, run_unsound}
 use Rattle.running.proofs.run.Goals as goal
