@@ -31,7 +31,7 @@ loaded-of c = c.load-loaded.ensures
 
 -- with 0,
 abbrev done-of : (c : After-regroup-grouped) → number c.load-loaded.result.answer ≡ 0
-done-of c = done (c to Else-number-ne0)
+done-of c = sym c.number.ensures ∙ c.if-number-ne0.false
 
 -- and started
 abbrev start-of : (c : After-regroup-grouped) → c.start-started.result ≡ start_of c.load-loaded.result.program
