@@ -103,18 +103,22 @@ pub record GroupedAs (q : Tables) (c : Held) (l out : List ℕ) (r : Answer) (ou
   pub answer : r ≡ (regroup_of q c l (length out)).answer
   pub wrote : out' ≡ fronted (numbers_of (regroup_of q c l (length out))) out
 
--- a refusal: nothing is written
-nothing_written : {w : Wrote} (out : List ℕ) {a : Answer} → w ≡ wrote_nothing a → (a ≡ w.answer) × (out ≡ fronted (numbers_of w) out)
-nothing_written out e = (ap (λ w. w.answer) (sym e), ap (λ w. fronted (numbers_of w) out) (sym e))
+-- a refusal: nothing is written, fact by fact,
+nothing_said : {w : Wrote} (out : List ℕ) {a : Answer} → w ≡ wrote_nothing a → (a ≡ w.answer) × (out ≡ fronted (numbers_of w) out)
+nothing_said out e = (ap (λ w. w.answer) (sym e), ap (λ w. fronted (numbers_of w) out) (sym e))
+
+-- and as what regroup gives
+nothing_written : {q : Tables} {c : Held} {l out : List ℕ} {a : Answer} → regroup_of q c l (length out) ≡ record { answer = a; list = [] } → GroupedAs q c l out a out
+nothing_written {out = out} e = let so = nothing_said out e in record { answer = so.0; wrote = so.1 }
 
 -- 20: the program is not sound,
 pub group_unsound : (q : Tables) (c : Held) (l out : List ℕ) → sound (program_of q) ≡ false → GroupedAs q c l out NotAccepted out
-group_unsound q c l out e = let so = nothing_written out (grouped_20 q c l (length out) (agree _ _ (fit_is q c) (refuted (λ h. denied (sound_is (program_of q)) e h.0)))) in record { answer = so.0; wrote = so.1 }
+group_unsound q c l out e = let so = nothing_said out (grouped_20 q c l (length out) (agree _ _ (fit_is q c) (refuted (λ h. denied (sound_is (program_of q)) e h.0)))) in record { answer = so.0; wrote = so.1 }
 
 module _ (q : Tables) (f : Flat) (l out : List ℕ) (z : Laid q f) {b : Bool} (t : Tells b (IsOne (program_of q) f)) where
   -- or the arrays hold no configuration
   pub group_unaccepted : not b ≡ true → GroupedAs q (held f) l out NotAccepted out
-  group_unaccepted n = let so = nothing_written out (grouped_20 q (held f) l (length out) (agree _ _ (fit_is q (held f)) (refuted (λ h. denied t (not-true b n) (record { accepted = h.1.0; zeroed = h.1.1 }))))) in record { answer = so.0; wrote = so.1 }
+  group_unaccepted n = let so = nothing_said out (grouped_20 q (held f) l (length out) (agree _ _ (fit_is q (held f)) (refuted (λ h. denied t (not-true b n) (record { accepted = h.1.0; zeroed = h.1.1 }))))) in record { answer = so.0; wrote = so.1 }
 
   -- THEY HOLD ONE
   module _ (n : not b ≡ false) where
@@ -123,15 +127,15 @@ module _ (q : Tables) (f : Flat) (l out : List ℕ) (z : Laid q f) {b : Bool} (t
 
     -- 3
     pub group_long : CHOICES < length l → GroupedAs q (held f) l out OutOfRange out
-    group_long k = let so = nothing_written out (grouped_3 q (held f) l (length out) fit_held k) in record { answer = so.0; wrote = so.1 }
+    group_long k = let so = nothing_said out (grouped_3 q (held f) l (length out) fit_held k) in record { answer = so.0; wrote = so.1 }
 
     -- 21
     pub group_short : length l ≤ CHOICES → length out < length l → GroupedAs q (held f) l out BufferTooShort out
-    group_short k r = let so = nothing_written out (grouped_21 q (held f) l (length out) fit_held k r) in record { answer = so.0; wrote = so.1 }
+    group_short k r = let so = nothing_said out (grouped_21 q (held f) l (length out) fit_held k r) in record { answer = so.0; wrote = so.1 }
 
     -- no choice
     pub group_none : length l ≡ 0 → GroupedAs q (held f) l out Done out
-    group_none e = let so = nothing_written out (grouped_none q (held f) l (length out) fit_held e) in record { answer = so.0; wrote = so.1 }
+    group_none e = let so = nothing_said out (grouped_none q (held f) l (length out) fit_held e) in record { answer = so.0; wrote = so.1 }
 
     -- the choices before the last were run
     module _ (any : length l ≡ 0 → ⊥) (few : length l ≤ CHOICES) (fits : length l ≤ length out) {row row' : List ℕ} {e : Ending} {g : Flat}
@@ -144,7 +148,7 @@ module _ (q : Tables) (f : Flat) (l out : List ℕ) (z : Laid q f) {b : Bool} (t
 
       -- 22
       pub group_22 : (e.steps ≡ length l - 1 → ⊥) → GroupedAs q (held f) l out TookNoStep out
-      group_22 short = let so = nothing_written out (grouped_22 q (held f) l (length out) fit_held (length l - 1) before_last few fits (λ h. short (steps_are ∙ h))) in record { answer = so.0; wrote = so.1 }
+      group_22 short = let so = nothing_said out (grouped_22 q (held f) l (length out) fit_held (length l - 1) before_last few fits (λ h. short (steps_are ∙ h))) in record { answer = so.0; wrote = so.1 }
 
       -- 0
       pub group_0 : {out' : List ℕ} → e.steps ≡ length l - 1 → out' ≡ fronted (placed_list l row') out → GroupedAs q (held f) l out Done out'

@@ -111,13 +111,13 @@ module _ {exprs stmts inits types owners vartypes doers bodies kinds entries exi
   }
 
   module _ {k : ℕ} {f : Flat} {row : List ℕ} (g : GoingOn k f row) where
-    -- the run is over where nothing more of it is taken: it stops with the answer b
-    stops : (b : Answer) → run (definition.step a.p) g.config (drop k xs) ≡ record { config = g.config; answer = b; steps = 0 } → ruled (definition.step a.p) g.config (drop k xs) ≡ []
+    -- the run is over where nothing more of it is taken: it stops with the answer b. Fact by fact,
+    stops_facts : (b : Answer) → run (definition.step a.p) g.config (drop k xs) ≡ record { config = g.config; answer = b; steps = 0 } → ruled (definition.step a.p) g.config (drop k xs) ≡ []
         → {r : Ending} → r ≡ ended_with b k
         → (held f ≡ written (run (definition.step a.p) a.c xs).config)
         × ((r ≡ ended_with (run (definition.step a.p) a.c xs).answer (run (definition.step a.p) a.c xs).steps)
         × (row ≡ fronted (map rule_number (ruled (definition.step a.p) a.c xs)) row₀))
-    stops b over none {r} e =
+    stops_facts b over none {r} e =
         let steps : k + 0 ≡ k = omega arith in
         let last : run (definition.step a.p) a.c xs ≡ record { config = g.config; answer = b; steps = k } = g.rest ∙ ap (later k) over ∙ (λ i. record { config = g.config; answer = b; steps = steps i }) in
         let all : ruled (definition.step a.p) a.c xs ≡ g.taken = g.rules ∙ ap (λ (ys : List Rule). g.taken ++ ys) none ∙ append-nil g.taken in (
@@ -128,12 +128,19 @@ module _ {exprs stmts inits types owners vartypes doers bodies kinds entries exi
           ),
         )
 
+    -- and as what a run leaves
+    stops : (b : Answer) → run (definition.step a.p) g.config (drop k xs) ≡ record { config = g.config; answer = b; steps = 0 } → ruled (definition.step a.p) g.config (drop k xs) ≡ []
+        → {r : Ending} → r ≡ ended_with b k → RunLeft a.p a.c l n row₀ r f row
+    stops b over none e =
+        let so = stops_facts b over none e in
+        record { sized = g.sized; holds = so.0; ends = so.1.0; rules = so.1.1 }
+
     -- AFTER THE LAST
     pub going_done : {r : Ending} → n ≤ k → r ≡ ended_with Done k → RunLeft a.p a.c l n row₀ r f row
     going_done h e =
         let all : length xs ≤ k = omega (arith, many_xs, h) in
         let none : drop k xs ≡ [] = drop_of_length-le xs all in
-        let over = stops Done (ap (run (definition.step a.p) g.config) none) (ap (ruled (definition.step a.p) g.config) none) e in
+        let over = stops_facts Done (ap (run (definition.step a.p) g.config) none) (ap (ruled (definition.step a.p) g.config) none) e in
         record { sized = g.sized; holds = over.0; ends = over.1.0; rules = over.1.1 }
 
     -- A TURN
@@ -170,7 +177,7 @@ module _ {exprs stmts inits types owners vartypes doers bodies kinds entries exi
       going_refused e q b g' d {r} s =
           let so = refused_so f g' _ b d in
           let refuses = sym (chosen e q) ∙ so.0 in
-          let over = stops b (ap (run (definition.step a.p) g.config) next_choice ∙ run_refused (definition.step a.p) g.config x (drop (k + 1) xs) b refuses)
+          let over = stops_facts b (ap (run (definition.step a.p) g.config) next_choice ∙ run_refused (definition.step a.p) g.config x (drop (k + 1) xs) b refuses)
           (ap (ruled (definition.step a.p) g.config) next_choice ∙ ruled_refused (definition.step a.p) g.config x (drop (k + 1) xs) b refuses) s in
           subst (λ (y : Flat). RunLeft a.p a.c l n row₀ r y row) (sym so.1) (record { sized = g.sized; holds = over.0; ends = over.1.0; rules = over.1.1 })
 
