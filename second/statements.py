@@ -116,7 +116,7 @@ def value_term(value: MaybeValue) -> str:
     if value.type == "int":
         whole = applied("pos", value.content) if value.content >= 0 else applied("negsuc", -1 - value.content)
         return applied("vint", f"({whole})")
-    return applied("vevent" if value.type == "event" else "idOf", value.content)
+    return applied("vevent" if value.type == "event" else "id_of", value.content)
 
 
 def argument(term: str) -> str:
@@ -185,24 +185,29 @@ class Statement(NamedTuple):
     opened: str
 
 
-OPENED_BY_LOADING = ("answered said below downward tree stars treeHeight exprInside height inside serves exprServes "
+OPENED_BY_LOADING = ("answered said below downward tree stars tree_height expr_inside height inside serves expr_serves "
                      "quietly")
-OPENED_BY_RUNNING = "value onto act step startConfig"
+OPENED_BY_RUNNING = "value onto act step start_config"
+
+
+def spelled(name: str) -> str:
+    """A text's name as a theorem's: words are joined by `_`, and by a dash beside one of capitals."""
+    return re.sub(r"(?<![A-Z])-(?![A-Z])", "_", name)
 
 
 def seen_statement(name: str, comment: str, text: bytes) -> Statement:
     """What the second program sees of a text."""
     loaded = namakviz.load(text)
     if isinstance(loaded, namakviz.Refused):
-        right = [f"refusedText {ANSWERS[loaded.answer]} {loaded.line}"]
+        right = [f"refused_text {ANSWERS[loaded.answer]} {loaded.line}"]
     else:
         config = namakviz.start(loaded.program)
         result = namakviz.run(loaded.program, config, loaded.choices)
-        right = ["ranText"] + broken(listed(result.rules)) + [f"{ANSWERS[result.answer]} {result.place} {result.steps}"]
+        right = ["ran_text"] + broken(listed(result.rules)) + [f"{ANSWERS[result.answer]} {result.place} {result.steps}"]
         right += config_term(config)
     left = text_term(text)
     left[0] = "seen " + left[0]
-    return Statement(name, comment, left, right, f"seen {OPENED_BY_LOADING} {OPENED_BY_RUNNING}")
+    return Statement(spelled(name), comment, left, right, f"seen {OPENED_BY_LOADING} {OPENED_BY_RUNNING}")
 
 
 def statement_lines(statement: Statement) -> List[str]:
@@ -218,37 +223,33 @@ def statement_lines(statement: Statement) -> List[str]:
 
 # Where the names of a statement come from. {own} stands for the crate of the statement.
 ORIGINS = (
-    ("Prim.Native.Nat", "ℕ"),
-    ("mathlib.Core.Path", "_≡_, refl"),
-    ("mathlib.Core.Option", "Option, none"),
-    ("mathlib.Core.Bool", "Bool, true, false"),
-    ("mathlib.Core.List", "List, [], _∷_, _++_, map"),
-    ("lib.IntN", "pos, negsuc"),
-    ("lib.ListN", "replicate"),
-    ("Rattle·lists.specs.Down", "below, downward"),
-    ("Rattle·answers.specs.declared.Answer.the-variants", ", ".join(ANSWERS)),
-    ("Rattle·values.specs.declared.Value.the-variants",
+    ("Rattle.std.specs.Prelude",
+     "ℕ, ◌≡◌, refl, Bool, true, false, List, [], ◌∷◌, ◌++◌, map, pos, negsuc, replicate"),
+    ("Rattle.std.proofs.Math.Option", "Option, none"),
+    ("Rattle.lists.specs.Down", "below, downward"),
+    ("Rattle.answers.specs.declared.Answer.TheVariants", ", ".join(ANSWERS)),
+    ("Rattle.values.specs.declared.Value.TheVariants",
      "Undefined as undefined, Bool as vbool, Int as vint, Event as vevent"),
-    ("Rattle·values.specs.Values", "idOf"),
-    ("Rattle·programs.specs.Trees", "tree, stars, treeHeight, exprInside"),
-    ("Rattle·programs.specs.Statements", "height, inside, serves, exprServes"),
-    ("Rattle·soundness.specs.Asked", "quietly"),
-    ("Rattle·machines.specs.Config", "action, deferred, nothing, idle, raising, returning, Machine, Config"),
-    ("Rattle·machines.specs.Eval", "value"),
-    ("Rattle·machines.specs.Row", "onto"),
-    ("Rattle·rules.specs.declared.Rule.the-variants", ", ".join(generate.RULES)),
-    ("Rattle·rules.specs.Act", "act"),
-    ("Rattle·rules.specs.Step", "step, startConfig"),
-    ("Rattle·acceptance.specs.Decide", "accepted"),
-    ("Rattle·regrouping.specs.Regrouped", "weave, tails"),
-    ("Rattle·regrouping.specs.Demand", "regroup"),
-    ("Rattle·texts.specs.Bytes", "bytes, text"),
-    ("Rattle·texts.specs.Forms", "said"),
-    ("Rattle·texts.specs.Reading", "Result, loaded, refused"),
-    ("Rattle·texts.specs.Answered", "answered"),
-    ("Rattle·outputs.specs.Lines", "numeral"),
-    ("Rattle·outputs.specs.Programs", "regroupProgram"),
-    ("Rattle·{own}·specs.specs.Seen", "seen, refusedText, ranText, frame, pair, machine, config"),
+    ("Rattle.values.specs.Values", "id_of"),
+    ("Rattle.programs.specs.Trees", "tree, stars, tree_height, expr_inside"),
+    ("Rattle.programs.specs.Statements", "height, inside, serves, expr_serves"),
+    ("Rattle.soundness.specs.Asked", "quietly"),
+    ("Rattle.machines.specs.Config", "action, deferred, nothing, idle, raising, returning, Machine, Config"),
+    ("Rattle.machines.specs.Eval", "value"),
+    ("Rattle.machines.specs.Row", "onto"),
+    ("Rattle.rules.specs.declared.Rule.TheVariants", ", ".join(generate.RULES)),
+    ("Rattle.rules.specs.Act", "act"),
+    ("Rattle.rules.specs.Step", "step, start_config"),
+    ("Rattle.acceptance.specs.Decide", "accepted"),
+    ("Rattle.regrouping.specs.Regrouped", "weave, tails"),
+    ("Rattle.regrouping.specs.Demand", "regroup"),
+    ("Rattle.texts.specs.Bytes", "bytes, text"),
+    ("Rattle.texts.specs.Forms", "said"),
+    ("Rattle.texts.specs.Reading", "Result, loaded, refused"),
+    ("Rattle.texts.specs.Answered", "answered"),
+    ("Rattle.outputs.specs.Lines", "numeral"),
+    ("Rattle.outputs.specs.Programs", "regroup_program"),
+    ("Rattle.{own}.specs.Seen", "seen, refused_text, ran_text, frame, pair, machine, config"),
 )
 
 
@@ -258,7 +259,7 @@ def use_lines(crate: str, body: List[str]) -> List[str]:
     used = set(re.split(r"[\s(){};]+", " ".join(terms)))
     lines = []
     for module, names in ORIGINS:
-        needed = [name for name in names.split(", ") if name.split(" as ")[-1].strip("_") in used]
+        needed = [name for name in names.split(", ") if name.split(" as ")[-1].strip("◌") in used]
         if needed:
             lines.append(f"use {module.format(own=crate)}.{{{', '.join(needed)}}}")
     return lines
@@ -692,9 +693,9 @@ DAMAGED_COPIES = 9
 
 ACCEPTED_IN = """
 -- of a text that loads: which of the configurations its program accepts
-abbrev acceptedIn : Result → List Config → List Bool
-acceptedIn (refused a k) cs = []
-acceptedIn (loaded p l) cs = map (accepted p) cs
+abbrev accepted_in : Result → List Config → List Bool
+accepted_in (refused a k) cs = []
+accepted_in (loaded p l) cs = map (accepted p) cs
 
 -- the rooms given and free ones behind them, and the next live number
 abbrev exactly : List (Option Machine) → ℕ → ℕ → Config
@@ -714,9 +715,9 @@ def regroup_trial(seed: int, index: int, most_choices: int) -> Optional[Statemen
     if isinstance(loaded, namakviz.Refused) or len({choice.machine for choice in loaded.choices}) < 2:
         return None
     left, right = text_term(text), text_term(namakviz.regroup_text(text).encode("latin-1"))
-    left[0] = "regroupProgram " + left[0]
-    opened = f"regroupProgram {OPENED_BY_LOADING} {OPENED_BY_RUNNING} numeral weave tails regroup"
-    return Statement(name, f"{len(text)} bytes.", left, right, opened)
+    left[0] = "regroup_program " + left[0]
+    opened = f"regroup_program {OPENED_BY_LOADING} {OPENED_BY_RUNNING} numeral weave tails regroup"
+    return Statement(spelled(name), f"{len(text)} bytes.", left, right, opened)
 
 
 def acceptance_trial(seed: int, index: int, most_choices: int) -> Optional[Statement]:
@@ -730,14 +731,14 @@ def acceptance_trial(seed: int, index: int, most_choices: int) -> Optional[State
     rng = random.Random(f"damaged {seed} {index}")
     configs = [config] + [damaged(rng, program, config) for _ in range(DAMAGED_COPIES)]
     left = text_term(text)
-    left[0] = "acceptedIn (answered " + left[0]
+    left[0] = "accepted_in (answered " + left[0]
     left[-1] += ")"
     for place, each in enumerate(configs):
         rooms, free = taken_rooms(each)
         left += ["(exactly (" if place == 0 else "∷ exactly (", *rooms_term(rooms, f") {free} {each.next}")]
     left.append("∷ [])")
     right = [listed("true" if namakviz.accepted(program, each) else "false" for each in configs).replace(SPACE, " ")]
-    return Statement(name, f"{len(text)} bytes.", left, right, f"{OPENED_BY_LOADING} accepted")
+    return Statement(spelled(name), f"{len(text)} bytes.", left, right, f"{OPENED_BY_LOADING} accepted")
 
 
 class Trial(NamedTuple):
@@ -776,7 +777,7 @@ def write_trial(about: str, count: int, seed: int, first: int, most_bytes: int, 
     (folder / "specs").mkdir(exist_ok=True)
     for old in (folder / "specs").glob("Try*.antt"):
         old.unlink()
-    (folder / "src" / "lib.rt").write_text("// A trial. There is no code here.\n")
+    (folder / "src" / "lib.rt").write_text("// A trial. There is no code here.\n#![tactic(auto)]\n")
     (folder / "specs" / "Seen.antt").write_text(SEEN.read_text())
     parts = in_files(statements, STATEMENTS_IN_A_FILE)
     for number, part in enumerate(parts, start=1):

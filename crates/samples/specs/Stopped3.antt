@@ -304,8 +304,8 @@ pub valid_00034_of_seed_1 : seen (text (
     (ASSIGN ∷ SEQ ∷ ASSIGN ∷ SEQ ∷ ASSIGN ∷ SEQ ∷ ASSIGN ∷ SEQ ∷ ASSIGN ∷ SEQ ∷ LEAVE ∷ [])
     UnableToStep 12 11
     (config (
-    machine 1 1 (frame 1 (nothing ∷ nothing ∷ []) ∷ []) (vint (pos 0) ∷ undefined ∷ id_of 1 ∷ vint (pos 0) ∷ vbool true ∷ []) undefined undefined [] idle
-    []
+    machine 1 1 (frame 1 (nothing ∷ nothing ∷ []) ∷ []) (vint (pos 0) ∷ undefined ∷ id_of 1 ∷ vint (pos 0) ∷ vbool true ∷ []) undefined undefined []
+    idle []
     ∷ []) 2)
 unfolding seen answered said below downward tree stars tree_height expr_inside height inside serves expr_serves quietly value onto act step start_config
 valid_00034_of_seed_1 = refl
