@@ -68,9 +68,9 @@ class Crates:
             self.structs[name] = {field: self.type_of(written) for field, written in fields}
         exported = re.findall(r'pub extern "C" fn (\w+)\((.*?)\) -> (\w+)', self.source("exports_c"), re.DOTALL)
         self.functions = {name: Function(types_of(parameters), result) for name, parameters, result in exported}
-        self.answers = dict(re.findall(r"Answer::(\w+) => (\d+),", self.source("numbers")))
+        self.answers = self.numbers("answers", "Answer")
         self.words = dict(re.findall(r"^## (\d+): (.*)$", (ROOT / "docs" / "ANSWERS.md").read_text("utf-8"), re.MULTILINE))
-        self.rules = dict(re.findall(r"Rule::(\w+) => (\d+),", self.source("labels")))
+        self.rules = self.numbers("rules", "Rule")
         found = [self.sizes, self.wrapped, self.structs, self.functions, self.answers, self.words, self.rules]
         if not all(found):
             raise Stopped("crates/ is not written as it was: embed/check.py finds nothing of some kind")
@@ -78,6 +78,11 @@ class Crates:
     @staticmethod
     def source(crate: str) -> str:
         return (ROOT / "crates" / crate / "src" / "lib.rt").read_text("utf-8")
+
+    def numbers(self, crate: str, enum: str) -> Dict[str, str]:
+        """The names of an enum that numbers its names, each with its number."""
+        body = re.search(rf"^pub enum {enum} \{{\n(.*?)^\}}", self.source(crate), re.DOTALL | re.MULTILINE)
+        return dict(re.findall(r"^    (\w+) = (\d+),$", body[1], re.MULTILINE)) if body else {}
 
     def number(self, written: str) -> int:
         """The number that a constant or an array's length is, a sum or a product of numbers and sizes."""

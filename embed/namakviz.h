@@ -32,6 +32,9 @@
 #define NAMAKVIZ_KINDS 16                                              /* machine kinds */
 #define NAMAKVIZ_VARIABLES 16                                          /* variables of a kind */
 #define NAMAKVIZ_ALL_VARIABLES (NAMAKVIZ_KINDS * NAMAKVIZ_VARIABLES)   /* variables in all */
+#define NAMAKVIZ_THIS NAMAKVIZ_VARIABLES                               /* the place of `this` in a room's values, behind the variables */
+#define NAMAKVIZ_MSG (NAMAKVIZ_VARIABLES + 1)                          /* the place of `msg` */
+#define NAMAKVIZ_ARG (NAMAKVIZ_VARIABLES + 2)                          /* the place of `arg` */
 #define NAMAKVIZ_EXPRESSIONS 1024                                      /* expressions */
 #define NAMAKVIZ_STATEMENTS 1024                                       /* statements */
 #define NAMAKVIZ_PAIRS 15000                                           /* pairs of all `init` lists */

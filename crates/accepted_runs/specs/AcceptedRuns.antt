@@ -5,7 +5,8 @@ use Rattle.programs.specs.Sizes.{CHOICES}
 use Rattle.tables.specs.declared.Program.{Program as Tables}
 use Rattle.tables.specs.Decode.{program_of, variables_of}
 use Rattle.index.specs.Index.{Said, Placed}
-use Rattle.configs.specs.Flat.{Flat, flat_config}
+use Rattle.configs.specs.declared.Flat.{Flat}
+use Rattle.configs.specs.Flat.{flat_config}
 use Rattle.accepting.specs.Asked.{IsOne}
 use Rattle.admitting.specs.Admitting.{Laid}
 use Rattle.looping.specs.Looping.{RunAsked}

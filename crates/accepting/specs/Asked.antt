@@ -3,19 +3,22 @@ use Rattle.std.specs.Prelude.{ℕ, ◌*◌, ◌≤◌, ◌<◌, ◌≡◌, Bool,
 use Rattle.std.proofs.Common.{ap, sym, ◌∙◌, arith}
 use Rattle.std.proofs.lemmas.Bool.{not-true, not-false}
 use Rattle.rows.specs.Part.{part}
-use Rattle.lists.specs.Tells.{Tells, granted, refuted, denied}
+use Rattle.lists.specs.Lists.{There}
+use Rattle.lists.specs.Tells.{Tells, form, granted, refuted, denied}
 use Rattle.programs.specs.Sizes.{EVENTS, SPENT}
 use Rattle.programs.specs.Program.{Program}
 use Rattle.soundness.specs.Sound.{Sound}
 use Rattle.soundness.specs.SoundFounded.{sound_founded}
 use Rattle.acceptance.specs.Accepted.{Distinct, Accepted}
+use Rattle.tables.specs.declared.Program.{Program as Tables}
 use Rattle.tables.specs.Decode as decode
 use Rattle.tables.specs.Tables.{events_length}
 use Rattle.parts.specs.Parts.{Said, awaits_held}
 use Rattle.configs.specs.Decode.{pending_of}
 use Rattle.marks.specs.Marks.{Heights, Served}
 use Rattle.configs.specs.Encode.{Zeroed}
-use Rattle.configs.specs.Flat.{Flat, Sized, held, flat_config}
+use Rattle.configs.specs.declared.Flat.{Flat}
+use Rattle.configs.specs.Flat.{Sized, held, flat_config}
 use Rattle.checked_values.specs.Numbers.{HeldNumber}
 use Rattle.checked_queues.specs.Queues.{QueueHeld}
 use Rattle.checked_variables.specs.Variables.{ValuesHeld}
@@ -42,6 +45,10 @@ pub record Told (types owners vartypes stmts doers homes heights served : List �
   pub machines_are : p.machines ≡ machines
   pub tall : Heights p heights
   pub serving : Served p served
+
+-- the tables are those of q
+abbrev pub ToldOf : Tables → List ℕ → List ℕ → Program → Type 0
+ToldOf q heights served p = Told q.event_types q.variable_of q.variable_type q.stmts q.action_of q.state_of heights served q.kinds p
 
 -- the statements of such a program
 pub told_said : {types owners vartypes stmts doers homes heights served : List ℕ} {machines : ℕ} {p : Program} → Told types owners vartypes stmts doers homes heights served machines p → Said stmts p
@@ -80,6 +87,12 @@ module _ (p : Program) (f : Flat) where
   -- ALL ARE AS THEY SHOULD BE
   pub one : {b : Bool} → (f.next ≡ 0 → ⊥) → f.next ≤ SPENT → Tells b (Distinct (flat_config p f).rooms) → b ≡ true → Before p f 32 → Tells true (IsOne p f)
   one n high t e rooms = let w = whole p f rooms (t.holds e) (omega (arith, n)) high in granted (record { accepted = w.0; zeroed = w.1 })
+
+  -- and a test of it all, one thing behind the other
+  pub one_told : {b : Bool} → Tells b ((((f.next ≡ 0 → ⊥) × (f.next ≤ SPENT)) × Distinct (flat_config p f).rooms) × Before p f 32) → Tells b (IsOne p f)
+  one_told t = form t
+      (λ h. let w = whole p f h.1 h.0.1 (omega (arith, h.0.0.0)) h.0.0.1 in record { accepted = w.0; zeroed = w.1 })
+      (λ o. (((λ e. omega (arith, o.accepted.next_low, e), o.accepted.next_high), o.accepted.distinct), each_fit p f o.accepted o.zeroed))
 
 -- what a live room's tests are asked of the tables
 module _ {types owners vartypes stmts doers homes heights served : List ℕ} {machines : ℕ} {p : Program} (t : Told types owners vartypes stmts doers homes heights served machines p) where
@@ -136,3 +149,19 @@ module _ {types owners vartypes stmts doers homes heights served : List ℕ} {ma
     });
     test = λ r. sq.test (tests r).queue;
   }
+
+  -- a test of all, one thing behind the other
+  pub live_told : {b : Bool} → Tells b ((((((get_or f.ids i 0 < f.next × There machines (get_or f.kinds i 0)) × RowHeld p (get_or f.kinds i 0) (pending_of (get_or f.held i 0)) (get_or f.counts i 0) (part (i * 33) 33 f.parts))
+      × StackHeld p (get_or f.kinds i 0) (get_or f.depths i 0) (part (i * 8) 8 f.states) (part (i * 512) 512 f.maps)) × ValuesHeld p f.next (get_or f.kinds i 0) (get_or f.ids i 0) (part (i * 19) 19 f.values))
+      × HeldNumber p f.next (get_or f.held i 0)) × QueueHeld p f.next (get_or f.waiting i 0) (part (i * 16) 16 f.pairs)) → Tells b (RoomFit p f i)
+  live_told told = form told
+      (λ h. tested_fit p t.sound f i n (record {
+        high = h.0.0.0.0.0.0;
+        kind_there = (h.0.0.0.0.0.1.0, omega (arith, h.0.0.0.0.0.1.1, t.machines_are));
+        row = h.0.0.0.0.1;
+        stack = h.0.0.0.1;
+        values = h.0.0.1;
+        pending = h.0.1;
+        queue = h.1;
+      }))
+      (λ r. let x = tests r in ((((((x.high, (x.kind_there.0, omega (arith, x.kind_there.1, t.machines_are))), x.row), x.stack), x.values), x.pending), x.queue))

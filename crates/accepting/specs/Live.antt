@@ -9,7 +9,8 @@ use Rattle.soundness.specs.Sound.{Sound}
 use Rattle.soundness.specs.SoundFounded.{sound_founded}
 use Rattle.kept.specs.KeptRow.{row_fits}
 use Rattle.configs.specs.Decode.{down_to, pending_of}
-use Rattle.configs.specs.Flat.{Flat, room_at}
+use Rattle.configs.specs.declared.Flat.{Flat}
+use Rattle.configs.specs.Flat.{room_at}
 use Rattle.checked_values.specs.Numbers.{HeldNumber}
 use Rattle.checked_queues.specs.Queues.{QueueHeld}
 use Rattle.checked_variables.specs.Variables.{ValuesHeld}

@@ -21,7 +21,8 @@ use Rattle.configs.specs.declared.Room.{Room}
 use Rattle.configs.specs.declared.Config.{Config as Held}
 use Rattle.configs.specs.Decode.{machine_of, room_of}
 use Rattle.configs.specs.Encode.{map_codes, held_code, pair_number, free, room_code, Zeroed}
-use Rattle.configs.specs.Flat.{Flat, room_at, held, flat_config, room_path}
+use Rattle.configs.specs.declared.Flat.{Flat}
+use Rattle.configs.specs.Flat.{room_at, held, flat_config, room_path}
 
 -- ROOM k is accepted, and writing what it reads as gives it again
 pub record RoomFit (p : Program) (f : Flat) (k : ℕ) : Type 0 where

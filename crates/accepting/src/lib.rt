@@ -4,159 +4,70 @@
 ghost use Rattle.std.specs.Prelude.{◌≡◌, ◌<◌, get_or};
 ghost use Rattle.lists.specs.Tells.{Tells};
 ghost use Rattle.programs.specs.Program.{Program as Lines};
-ghost use Rattle.configs.specs.Flat.{flat};
 ghost use Rattle.accepting.specs.Rooms.{RoomFit};
-ghost use Rattle.accepting.specs.Asked.{Told, Listed, IsOne};
+ghost use Rattle.accepting.specs.Asked.{ToldOf, Listed, IsOne};
 
 use checked_queues::queue_ok;
 use checked_rows::row_ok;
 use checked_stacks::frames_ok;
 use checked_values::pending_ok;
 use checked_variables::values_ok;
+use configs::Flat;
 use distinct::distinct_ok;
 use free_rooms::free_ok;
-use tables::Program;
+use marks::Table;
+use tables::{Program, there};
 
-// A live machine's room: its number, its kind, its stack, its values, what is pending, its row and its queue.
-fn live_ok<'a>(
-    types: &[u8; Program::EVENTS + 1],
-    owners: &'a [u16; Program::ALL_VARIABLES + 1],
-    vartypes: &'a [u8; Program::ALL_VARIABLES + 1],
-    stmts: &[u16; 5 * (Program::STATEMENTS + 1)],
-    doers: &[u8; Program::ACTIONS + 1],
-    homes: &[u8; Program::STATES + 1],
+// A live machine's room: its number, its kind, its row, its stack, its values, what is pending and its queue.
+fn live_ok(
+    program: &Program,
     heights: &[u16; Program::STATEMENTS + 1],
-    served: &[u8; (Program::KINDS + 1) * (Program::STATEMENTS + 1)],
-    machines: u8,
-    ids: &[u32; Program::ROOMS],
-    kinds: &[u8; Program::ROOMS],
-    depths: &[usize; Program::ROOMS],
-    states: &[u8; Program::ROOMS * Program::STACK],
-    maps: &[u8; Program::ROOMS * Program::STACK * Program::EVENTS],
-    values: &[u64; Program::ROOMS * (Program::VARIABLES + 3)],
-    counts: &[usize; Program::ROOMS],
-    parts: &[u16; Program::ROOMS * Program::ROW],
-    held: &[u64; Program::ROOMS],
-    waiting: &[usize; Program::ROOMS],
-    pairs: &[u64; Program::ROOMS * Program::QUEUE],
-    next: u32,
+    served: &Table,
+    flat: &Flat,
     i: usize,
 ) -> bool
-    requires { Listed (flat ids.now kinds.now depths.now states.now maps.now values.now counts.now parts.now held.now waiting.now pairs.now next) machines × (i < 32) × (get_or ids.now i 0 ≡ 0 → ⊥) }
-    ensures { (p : Lines) → Told types.now owners.now vartypes.now stmts.now doers.now homes.now heights.now served.now machines p → Tells result (RoomFit p (flat ids.now kinds.now depths.now states.now maps.now values.now counts.now parts.now held.now waiting.now pairs.now next) i) }
+    requires { Listed flat.now program.now.kinds × (i < 32) × (get_or flat.now.ids i 0 ≡ 0 → ⊥) }
+    ensures { (p : Lines) → ToldOf program.now heights.now served.now p → Tells result (RoomFit p flat.now i) }
 {
-    let id = ids[i];
-    if next <= id {
-        return false;
-    }
-    let kind = kinds[i];
-    if kind == 0 {
-        return false;
-    }
-    if machines < kind {
-        return false;
-    }
-    let events = tables::event_count(types);
-    if !frames_ok(homes, doers, states, maps, i, depths[i], kind, events) {
-        return false;
-    }
-    if !values_ok(owners, vartypes, types, values, i, kind, id, next) {
-        return false;
-    }
-    let x = held[i];
-    if !pending_ok(types, x, next) {
-        return false;
-    }
-    if !row_ok(stmts, heights, served, parts, i, counts[i], kind, x != 0) {
-        return false;
-    }
-    queue_ok(types, pairs, waiting, i, next)
+    flat.ids[i] < flat.next
+        && there(usize::from(program.kinds), usize::from(flat.kinds[i]))
+        && row_ok(&program.stmts, heights, served, flat, i)
+        && frames_ok(program, flat, i)
+        && values_ok(program, flat, i)
+        && pending_ok(&program.event_types, flat.held[i], flat.next)
+        && queue_ok(&program.event_types, flat, i)
 }
 
 // Room i: free, or a live machine's.
-fn room_ok<'a>(
-    types: &[u8; Program::EVENTS + 1],
-    owners: &'a [u16; Program::ALL_VARIABLES + 1],
-    vartypes: &'a [u8; Program::ALL_VARIABLES + 1],
-    stmts: &[u16; 5 * (Program::STATEMENTS + 1)],
-    doers: &[u8; Program::ACTIONS + 1],
-    homes: &[u8; Program::STATES + 1],
+fn room_ok(
+    program: &Program,
     heights: &[u16; Program::STATEMENTS + 1],
-    served: &[u8; (Program::KINDS + 1) * (Program::STATEMENTS + 1)],
-    machines: u8,
-    ids: &[u32; Program::ROOMS],
-    kinds: &[u8; Program::ROOMS],
-    depths: &[usize; Program::ROOMS],
-    states: &[u8; Program::ROOMS * Program::STACK],
-    maps: &[u8; Program::ROOMS * Program::STACK * Program::EVENTS],
-    values: &[u64; Program::ROOMS * (Program::VARIABLES + 3)],
-    counts: &[usize; Program::ROOMS],
-    parts: &[u16; Program::ROOMS * Program::ROW],
-    held: &[u64; Program::ROOMS],
-    waiting: &[usize; Program::ROOMS],
-    pairs: &[u64; Program::ROOMS * Program::QUEUE],
-    next: u32,
+    served: &Table,
+    flat: &Flat,
     i: usize,
 ) -> bool
-    requires { Listed (flat ids.now kinds.now depths.now states.now maps.now values.now counts.now parts.now held.now waiting.now pairs.now next) machines × (i < 32) }
-    ensures { (p : Lines) → Told types.now owners.now vartypes.now stmts.now doers.now homes.now heights.now served.now machines p → Tells result (RoomFit p (flat ids.now kinds.now depths.now states.now maps.now values.now counts.now parts.now held.now waiting.now pairs.now next) i) }
+    requires { Listed flat.now program.now.kinds × (i < 32) }
+    ensures { (p : Lines) → ToldOf program.now heights.now served.now p → Tells result (RoomFit p flat.now i) }
 {
-    if ids[i] == 0 {
-        return free_ok(
-            kinds, depths, states, maps, values, counts, parts, held, waiting, pairs, i,
-        );
+    if flat.ids[i] == 0 {
+        free_ok(flat, i)
+    } else {
+        live_ok(program, heights, served, flat, i)
     }
-    live_ok(
-        types, owners, vartypes, stmts, doers, homes, heights, served, machines, ids, kinds,
-        depths, states, maps, values, counts, parts, held, waiting, pairs, next, i,
-    )
 }
 
 // THE CONFIGURATION that the arrays hold is one.
-pub fn accepted_on<'a>(
-    types: &[u8; Program::EVENTS + 1],
-    owners: &'a [u16; Program::ALL_VARIABLES + 1],
-    vartypes: &'a [u8; Program::ALL_VARIABLES + 1],
-    stmts: &[u16; 5 * (Program::STATEMENTS + 1)],
-    doers: &[u8; Program::ACTIONS + 1],
-    homes: &[u8; Program::STATES + 1],
+pub fn accepted_on(
+    program: &Program,
     heights: &[u16; Program::STATEMENTS + 1],
-    served: &[u8; (Program::KINDS + 1) * (Program::STATEMENTS + 1)],
-    machines: u8,
-    ids: &[u32; Program::ROOMS],
-    kinds: &[u8; Program::ROOMS],
-    depths: &[usize; Program::ROOMS],
-    states: &[u8; Program::ROOMS * Program::STACK],
-    maps: &[u8; Program::ROOMS * Program::STACK * Program::EVENTS],
-    values: &[u64; Program::ROOMS * (Program::VARIABLES + 3)],
-    counts: &[usize; Program::ROOMS],
-    parts: &[u16; Program::ROOMS * Program::ROW],
-    held: &[u64; Program::ROOMS],
-    waiting: &[usize; Program::ROOMS],
-    pairs: &[u64; Program::ROOMS * Program::QUEUE],
-    next: u32,
+    served: &Table,
+    flat: &Flat,
 ) -> bool
-    requires { Listed (flat ids.now kinds.now depths.now states.now maps.now values.now counts.now parts.now held.now waiting.now pairs.now next) machines }
-    ensures { (p : Lines) → Told types.now owners.now vartypes.now stmts.now doers.now homes.now heights.now served.now machines p → Tells result (IsOne p (flat ids.now kinds.now depths.now states.now maps.now values.now counts.now parts.now held.now waiting.now pairs.now next)) }
+    requires { Listed flat.now program.now.kinds }
+    ensures { (p : Lines) → ToldOf program.now heights.now served.now p → Tells result (IsOne p flat.now) }
 {
-    if next == 0 {
-        return false;
-    }
-    if Program::LIVE_NUMBERS < next as usize {
-        return false;
-    }
-    if !distinct_ok(ids) {
-        return false;
-    }
-    let mut k: usize = 0;
-    while k < Program::ROOMS {
-        if !room_ok(
-            types, owners, vartypes, stmts, doers, homes, heights, served, machines, ids, kinds,
-            depths, states, maps, values, counts, parts, held, waiting, pairs, next, k,
-        ) {
-            return false;
-        }
-        k += 1;
-    }
-    true
+    flat.next != 0
+        && flat.next as usize <= Program::LIVE_NUMBERS
+        && distinct_ok(&flat.ids)
+        && (0..Program::ROOMS).all(|k| room_ok(program, heights, served, flat, k))
 }

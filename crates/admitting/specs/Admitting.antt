@@ -4,7 +4,8 @@ use Rattle.soundness.specs.Sound.{Sound}
 use Rattle.tables.specs.declared.Program.{Program as Tables}
 use Rattle.tables.specs.Decode.{program_of}
 use Rattle.marks.specs.Marks.{Heights, Served}
-use Rattle.configs.specs.Flat.{Flat, Sized}
+use Rattle.configs.specs.declared.Flat.{Flat}
+use Rattle.configs.specs.Flat.{Sized}
 use Rattle.accepting.specs.Asked.{Told}
 
 -- the program is sound, and the arrays have the places of 32 rooms

@@ -1,5 +1,6 @@
 -- The values of `init`, one after the other: what the loop of src/lib.rt has worked out after j of the pairs, and that in the end it is what the definitions have.
-use Rattle.std.specs.Prelude.{ℕ, zero, suc, ◌+◌, ◌*◌, ◌/◌, ◌%◌, ◌^◌, ◌≤◌, ◌<◌, ◌≡◌, refl, Bool, true, false, List, [], ◌∷◌, map, eqb, length, drop, get_or, set, replicate}
+use Rattle.std.specs.Prelude.{ℕ, zero, suc, ◌+◌, ◌*◌, ◌/◌, ◌%◌, ◌^◌, ◌≤◌, ◌<◌, ◌≡◌, refl, Bool, true, false, List, [], ◌∷◌, map, eqb, length, drop, get_or, set, replicate, Some, None}
+use Rattle.std.specs.Prelude as Prelude
 use Rattle.std.proofs.Common.{sym, ap, ◌∙◌, subst, div-le_self, add-one, arith, length-set, drop_of_length-le, drop-cons, get_or-set_same, get_or-set_other}
 use Rattle.std.proofs.Math.Logic.{dite}
 use Rattle.std.proofs.Math.Option.{Option, none, some}
@@ -28,7 +29,7 @@ use Rattle.tables.specs.Decode.{no_variable, pair_in, pairs_of}
 use Rattle.tables.specs.Tables.{variables_length, pairs_length, pairs_get}
 use Rattle.index.specs.Index.{Places}
 use Rattle.evaluation.specs.Evaluated.{REST, evaluated, Readable}
-use Rattle.configs.specs.Flat.{Flat}
+use Rattle.configs.specs.declared.Flat.{Flat}
 use Rattle.engine.specs.Engine.{Stands}
 use Rattle.stored.specs.Stored.{place_own, place_there, place_16, readable, gives_code, gives_value, gives_rest}
 use Rattle.sending.specs.Heads.{head_refers}
@@ -93,6 +94,11 @@ module _ {k z n w : ℕ} {exprs places kinds types inits values out₀ : List �
   abbrev pub Begun : Bool → List ℕ → Type 0
   Begun true out = (vs : List Value) × ((inits_of ≡ some vs) × ((length vs ≡ length (variables_of q.p q.kind)) × Written vs out))
   Begun false out = (inits_of ≡ none) × (out ≡ out₀)
+
+  -- as it is answered: the values, or none of them
+  abbrev pub Given : Prelude.Option (List ℕ) → Type 0
+  Given (Some out) = Begun true out
+  Given None = Begun false out₀
 
   -- after j pairs
   pub record Working (j rest : ℕ) (out : List ℕ) : Type 0 where

@@ -86,6 +86,30 @@ module _ (p : Program) (next : ℕ) where
     pub apart_once : Apart p next (part b n l) → any (eqb (get_or l (b + j) 0)) (part (b + k) (n - k) l) ≡ false
     apart_once r = (asked r).1.0
 
+  -- NUMBER BY NUMBER
+  -- number j is a pair's, and stands nowhere behind itself
+  pub record Single (l : List ℕ) (j : ℕ) : Type 0 where
+    pub pair : PairNumber p next (get_or l j 0)
+    pub once : any (eqb (get_or l j 0)) (drop (j + 1) l) ≡ false
+
+  -- one number in front
+  single_behind : (x : ℕ) (l : List ℕ) (j : ℕ) → Single (x ∷ l) (suc j) → Single l j
+  single_behind x l j s = let e : suc j + 1 ≡ suc (j + 1) = omega arith in record { pair = s.pair; once = rw e at s.once }
+
+  single_before : (x : ℕ) (l : List ℕ) (j : ℕ) → Single l j → Single (x ∷ l) (suc j)
+  single_before x l j s = let e : suc j + 1 ≡ suc (j + 1) = omega arith in record { pair = s.pair; once = rw e s.once }
+
+  -- where each number is so, they are apart,
+  pub singles_apart : (l : List ℕ) → ((j : ℕ) → j < length l → Single l j) → Apart p next l
+  singles_apart [] h = tt
+  singles_apart (x ∷ l) h = ((h 0 (omega arith)).pair, ((h 0 (omega arith)).once, singles_apart l (λ j b. single_behind x l j (h (suc j) (omega arith)))))
+
+  -- and the other way round.
+  pub apart_singles : (l : List ℕ) → Apart p next l → (j : ℕ) → j < length l → Single l j
+  apart_singles [] h j b = absurd (omega arith)
+  apart_singles (x ∷ l) h zero b = record { pair = h.0; once = h.1.0 }
+  apart_singles (x ∷ l) h (suc j) b = single_before x l j (apart_singles l h.1.1 j (omega arith))
+
   -- WHAT IS ASKED OF THE NUMBERS is what is asked of the pairs
   -- they are canonical
   canonical_all : (l : List ℕ) → Apart p next l → All CanonicalPair l

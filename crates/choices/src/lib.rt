@@ -1,4 +1,5 @@
 // The accessors of a choice, which is lent as one number: any number is a choice.
+// stays: the C interface: choices are lent as numbers of 32 bits, machine and bits in one
 #![tactic(auto)]
 
 ghost use Rattle.std.specs.Prelude.{◌≡◌};

@@ -1,3 +1,1 @@
-pub mod Ints
-pub mod Rest
 pub mod Held

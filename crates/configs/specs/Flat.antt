@@ -1,30 +1,17 @@
 -- The engine's form of a configuration: one flat list for all 32 rooms each, row i of it room i's; the configuration that it is, and what a change of one
 -- room's rows does to what it reads as.
-use Rattle.std.specs.Prelude.{ℕ, ◌*◌, ◌<◌, ◌≡◌, List, length, get_or, set}
+use Rattle.std.specs.Prelude.{ℕ, ◌*◌, ◌<◌, ◌≡◌, List, length, get_or, set, replicate}
 use Rattle.std.proofs.Common.{ap, sym, ◌∙◌}
 use Rattle.std.proofs.Math.Option.{Option, none}
+use Rattle.std.proofs.lemmas.List.{length-replicate}
 use Rattle.rows.specs.Seek.{table, table_at, map_table, table_set}
 use Rattle.rows.specs.Part.{part}
 use Rattle.programs.specs.Program.{Program}
 use Rattle.machines.specs.Config.{Machine, Config}
 use Rattle.configs.specs.declared.Room.{Room}
+use Rattle.configs.specs.declared.Flat.{Flat}
 use Rattle.configs.specs.declared.Config.{Config as Held}
 use Rattle.configs.specs.Decode.{room_of, config_of}
-
--- THE FLAT LISTS, with how many places of each are a room's
-pub record Flat : Type 0 where
-  pub ids : List ℕ
-  pub kinds : List ℕ
-  pub depths : List ℕ
-  pub states : List ℕ  -- 8
-  pub maps : List ℕ  -- 512
-  pub values : List ℕ  -- 19
-  pub counts : List ℕ
-  pub parts : List ℕ  -- 33
-  pub held : List ℕ
-  pub waiting : List ℕ
-  pub pairs : List ℕ  -- 16
-  pub next : ℕ
 
 -- each has the places of 32 rooms
 pub record Sized (f : Flat) : Type 0 where
@@ -75,6 +62,27 @@ sized_next f n s = record {
   held_32 = s.held_32;
   waiting_32 = s.waiting_32;
   pairs_512 = s.pairs_512;
+}
+
+-- every place zero
+abbrev pub zeros : Flat
+zeros = flat (replicate 32 0) (replicate 32 0) (replicate 32 0) (replicate 256 0) (replicate 16384 0) (replicate 608 0) (replicate 32 0) (replicate 1056 0) (replicate 32 0)
+    (replicate 32 0) (replicate 512 0) 0
+
+-- has the places of 32 rooms
+pub zeros_sized : Sized zeros
+zeros_sized = record {
+  ids_32 = length-replicate {A = ℕ} 32 0;
+  kinds_32 = length-replicate {A = ℕ} 32 0;
+  depths_32 = length-replicate {A = ℕ} 32 0;
+  states_256 = length-replicate {A = ℕ} 256 0;
+  maps_16384 = length-replicate {A = ℕ} 16384 0;
+  values_608 = length-replicate {A = ℕ} 608 0;
+  counts_32 = length-replicate {A = ℕ} 32 0;
+  parts_1056 = length-replicate {A = ℕ} 1056 0;
+  held_32 = length-replicate {A = ℕ} 32 0;
+  waiting_32 = length-replicate {A = ℕ} 32 0;
+  pairs_512 = length-replicate {A = ℕ} 512 0;
 }
 
 -- room i

@@ -1,5 +1,5 @@
 -- What `new_on` of src/lib.rt is asked, and that what it leaves is what the definitions have for a creation.
-use Rattle.std.specs.Prelude.{ℕ, zero, suc, ◌+◌, ◌*◌, ◌≤◌, ◌<◌, ◌≡◌, refl, Bool, true, false, not, eqb, drop, set, replicate}
+use Rattle.std.specs.Prelude.{ℕ, zero, suc, ◌+◌, ◌*◌, ◌≤◌, ◌<◌, ◌≡◌, refl, Bool, true, false, not, eqb, drop, set, replicate, Ok, Err}
 use Rattle.std.proofs.Math.Path.{sym, ap, subst}
 use Rattle.std.proofs.Common.{◌∙◌, arith, length-set}
 use mathlib.Core.List.{List, [], ◌∷◌}
@@ -23,11 +23,11 @@ use Rattle.tables.specs.Tables.{variables_length}
 use Rattle.tables.specs.Decode.{pairs_of, stmts_of, states_of, no_state}
 use Rattle.index.specs.Index.{Places}
 use Rattle.configs.specs.Encode.{free}
-use Rattle.configs.specs.Flat.{Flat, flat, room_at}
+use Rattle.configs.specs.declared.Flat.{Flat}
+use Rattle.configs.specs.Flat.{flat, room_at}
 use Rattle.parts.specs.Parts.{Said, Any, tidied}
-use Rattle.engine.specs.declared.Outcome.{Outcome}
+use Rattle.engine.specs.Outcome.{Outcome}
 use Rattle.stored.specs.Stored.{place_16}
-use Rattle.engine.specs.declared.Outcome.TheVariants.{Took, Refused}
 use Rattle.engine.specs.Engine.{Stands, Changed, Performed}
 use Rattle.engine.specs.Holding.{RowBecomes}
 use Rattle.remaining.specs.Remaining.{Headed}
@@ -141,18 +141,18 @@ module _ {k x m z n w : ℕ} {exprs places variables types stmts inits owners en
 
     module _ (out' : List ℕ) (t : ℕ) (α : List Reply) where
       -- 15: one does not suit
-      pub new_wrong : Begun to_inits false out' → Created t α (Refused WrongType) ids kinds depths tops values counts parts next
+      pub new_wrong : Begun to_inits false out' → Created t α (Err WrongType) ids kinds depths tops values counts parts next
       unfolding to_inits
       new_wrong h = rw h.0 (refl, refl)
 
       module _ (begun : Begun to_inits true out') where
         -- 18: the live numbers are spent,
-        pub new_spent : 65536 ≤ next → Created t α (Refused NoRoom) ids kinds depths tops values counts parts next
+        pub new_spent : 65536 ≤ next → Created t α (Err NoRoom) ids kinds depths tops values counts parts next
         unfolding to_inits
         new_spent h = rw begun.1.0 (created_spent q.p lists q.c k q.own q.lives after (created q.p m begun.0) h)
 
         -- or no room is free
-        pub new_none : (to : ℕ) → First ids 0 to → next < 65536 → to ≡ 32 → Created t α (Refused NoRoom) ids kinds depths tops values counts parts next
+        pub new_none : (to : ℕ) → First ids 0 to → next < 65536 → to ≡ 32 → Created t α (Err NoRoom) ids kinds depths tops values counts parts next
         unfolding to_inits
         new_none to first l e = rw begun.1.0 (created_none q.p lists q.c k q.own q.lives after (created q.p m begun.0) to first l e)
 
@@ -192,7 +192,7 @@ module _ {k x m z n w : ℕ} {exprs places variables types stmts inits owners en
           → (id : ℕ) → id ≡ code_of (id_of next) → (i : ℕ) → i ≡ initial_in owners m → (entry : ℕ) → ((exits flags : List ℕ) → entry ≡ (at no_state (states_of owners entries exits flags) i).entry)
           → (ids' kinds' depths' tops' values' counts' parts' : List ℕ)
           → NewLaid to next m i (set out' 16 id) entry stmts ids kinds depths tops (set values (k * 19 + get_or places x 0) id) counts1 parts1 ids' kinds' depths' tops' values' counts' parts'
-          → Created t α (Took NEW) ids' kinds' depths' tops' values' counts' parts' (next + 1)
+          → Created t α (Ok NEW) ids' kinds' depths' tops' values' counts' parts' (next + 1)
       unfolding to_inits
       new_done out size blank out' t α begun id id_is i i-is entry entry_is ids' kinds' depths' tops' values' counts' parts' laid =
           let few : length begun.0 ≤ 16 = omega (arith, begun.1.1.0, q.sound.is_sized.1.1.0 m named.2) in

@@ -1,6 +1,6 @@
 -- NEW as the definitions have it: the creator moves on with the new machine's id in its variable, the new machine takes the lowest free room, and the next live
 -- number is one more.
-use Rattle.std.specs.Prelude.{ℕ, suc, ◌+◌, ◌*◌, ◌≤◌, ◌<◌, ◌≡◌, refl, Bool, not, List, ◌∷◌, eqb, drop, get_or, set}
+use Rattle.std.specs.Prelude.{ℕ, suc, ◌+◌, ◌*◌, ◌≤◌, ◌<◌, ◌≡◌, refl, Bool, not, List, ◌∷◌, eqb, drop, get_or, set, Ok, Err}
 use Rattle.std.proofs.Common.{sym, ap, ◌∙◌, add-one, arith, lt-ltb, le-ltb}
 use Rattle.std.proofs.Math.Option.{Option, none, some, map, none-ne-some}
 use Rattle.std.proofs.lemmas.List.{length-map}
@@ -19,9 +19,9 @@ use Rattle.rules.specs.Step as definition
 use Rattle.codes.specs.Codes.{code_of}
 use Rattle.index.specs.Index.{Places}
 use Rattle.configs.specs.Encode.{free, room_code, written}
-use Rattle.configs.specs.Flat.{Flat, Sized, flat, room_at, room_path, held}
+use Rattle.configs.specs.declared.Flat.{Flat}
+use Rattle.configs.specs.Flat.{Sized, flat, room_at, room_path, held}
 use Rattle.parts.specs.Parts.{Any, tidied}
-use Rattle.engine.specs.declared.Outcome.TheVariants.{Took, Refused}
 use Rattle.engine.specs.Engine.{Stands, Changed, Performed}
 use Rattle.engine.specs.Holding.{RowBecomes, untouched, touched}
 use Rattle.remaining.specs.Held.{changed, remains_changed}
@@ -70,7 +70,7 @@ each_taken g rs j n e = go (get_or rs j none) refl (sym (get_or-map (map g) rs j
 
 module _ (p : Program) (f : Flat) (c : Config) (k : ℕ) (m : Machine) (from : Lives p f c k m) (l : ℕ → Local) (b : Local) where
   -- 18: the live numbers are spent,
-  pub created_spent : 65536 ≤ f.next → Performed f (definition.perform p c m.this m (creates l b)) (Refused NoRoom) f
+  pub created_spent : 65536 ≤ f.next → Performed f (definition.perform p c m.this m (creates l b)) (Err NoRoom) f
   created_spent h = rw (le-ltb c.next 65536 (omega (arith, next_is f c from.holds))) (refl, refl)
 
   module _ (to : ℕ) (first : First f.ids 0 to) (unspent : f.next < 65536) where
@@ -79,7 +79,7 @@ module _ (p : Program) (f : Flat) (c : Config) (k : ℕ) (m : Machine) (from : L
     below = omega (arith, next_is f c from.holds)
 
     -- or no room is free
-    pub created_none : to ≡ 32 → Performed f (definition.perform p c m.this m (creates l b)) (Refused NoRoom) f
+    pub created_none : to ≡ 32 → Performed f (definition.perform p c m.this m (creates l b)) (Err NoRoom) f
     created_none e = rw (
       lt-ltb c.next 65536 below,
       fill_none (born c b) (each (on m.this (set_local (l c.next))) c.rooms) (λ j h. each_taken (on m.this (set_local (l c.next))) c.rooms j
@@ -96,7 +96,7 @@ module _ (p : Program) (f : Flat) (c : Config) (k : ℕ) (m : Machine) (from : L
       module _ (f1 : Flat) (moved : Changed f k (set_local (l c.next) m) f1) where
         -- the configuration
         moves : held f1 ≡ written (with_local m.this (l c.next) c)
-        moves = local_written p f c k m from (Took NEW) f1 (l c.next) moved
+        moves = local_written p f c k m from (Ok NEW) f1 (l c.next) moved
 
         -- in which the room is free
         still : get_or (with_local m.this (l c.next) c).rooms to none ≡ none
@@ -114,7 +114,7 @@ module _ (p : Program) (f : Flat) (c : Config) (k : ℕ) (m : Machine) (from : L
 
         -- THE NEW MACHINE in it
         pub created_done : (g : Flat) → Changed f1 to (born c b) g
-            → Performed f (definition.perform p c m.this m (creates l b)) (Took NEW)
+            → Performed f (definition.perform p c m.this m (creates l b)) (Ok NEW)
             (flat g.ids g.kinds g.depths g.states g.maps g.values g.counts g.parts g.held g.waiting g.pairs (f.next + 1))
         created_done g d = rw (lt-ltb c.next 65536 below, filled) (
           refl,

@@ -21,7 +21,8 @@ use Rattle.machines.specs.Config.{nothing}
 use Rattle.machines.specs.Locals.{created}
 use Rattle.codes.specs.Codes.{code_of}
 use Rattle.configs.specs.Encode.{reply_code, free}
-use Rattle.configs.specs.Flat.{Flat, Sized, flat, room_at, room_path}
+use Rattle.configs.specs.declared.Flat.{Flat}
+use Rattle.configs.specs.Flat.{Sized, flat, room_at, room_path}
 use Rattle.parts.specs.Parts.{Said, tidied}
 use Rattle.engine.specs.Engine.{Changed}
 use Rattle.engine.specs.Holding.{RowHeld, RowBecomes, untouched, touched, touched_place}

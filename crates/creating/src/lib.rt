@@ -1,4 +1,5 @@
 // NEW: a machine begins in the lowest free room, and its creator moves on. Where it is refused nothing is changed.
+// stays: no plainer: these functions are lent the arrays that they touch, so that no contract need say that the others stay
 #![tactic(auto)]
 
 ghost use Rattle.std.specs.Prelude.{List, ℕ};
@@ -10,14 +11,8 @@ use answers::Answer;
 use beginnings::{init_values, initial_state};
 use engine::Outcome;
 use rules::Rule;
-use tables::{Program, index, wide};
+use tables::Program;
 use values::{Live, Value};
-
-// Where `this` stands among a machine's values: behind the variables.
-const THIS: usize = Program::VARIABLES;
-
-// The next live number is at most this, and then no machine can be created.
-const SPENT: u32 = 65536;
 
 // Machine i, of kind m, in room `to`, which is free: in state n, with these values, at the entry statement.
 pub fn lay_new(
@@ -43,7 +38,7 @@ pub fn lay_new(
     kinds[to] = m;
     depths[to] = 1;
     tops[to * Program::STACK] = n;
-    copies::copy_u64(
+    copies::copy(
         values,
         to * (Program::VARIABLES + 3),
         &own,
@@ -54,15 +49,9 @@ pub fn lay_new(
 }
 
 // THE HEAD `new x m ..` of the machine in room k, with the n pairs of `init` from place z on, under the bits w.
-pub fn new_on<'a, 'b>(
-    exprs: &[u32; 3 * (Program::EXPRESSIONS + 1)],
+pub fn new_on(
+    program: &Program,
     places: &[u8; Program::ALL_VARIABLES + 1],
-    variables: &'a [u16; Program::ALL_VARIABLES + 1],
-    types: &'a [u8; Program::ALL_VARIABLES + 1],
-    stmts: &[u16; 5 * (Program::STATEMENTS + 1)],
-    inits: &[u16; 2 * Program::PAIRS],
-    owners: &'b [u8; Program::STATES + 1],
-    entries: &'b [u16; Program::STATES + 1],
     ids: &mut [u32; Program::ROOMS],
     kinds: &mut [u8; Program::ROOMS],
     depths: &mut [usize; Program::ROOMS],
@@ -79,31 +68,24 @@ pub fn new_on<'a, 'b>(
     n: u16,
     w: u64,
 ) -> Outcome
-    requires { NewAsked k x m z n w exprs.now places.now variables.now types.now stmts.now inits.now owners.now entries.now ids.old kinds.old depths.old tops.old values.old counts.old parts.old held.now next.old }
-    ensures { (q : NewAsked k x m z n w exprs.now places.now variables.now types.now stmts.now inits.now owners.now entries.now ids.old kinds.old depths.old tops.old values.old counts.old parts.old held.now next.old) (t : ℕ) (α : List Reply) → Created q t α result ids.new kinds.new depths.new tops.new values.new counts.new parts.new next.new }
+    requires { NewAsked k x m z n w program.now.exprs places.now program.now.variable_of program.now.variable_type program.now.stmts program.now.inits program.now.state_of program.now.state_entry ids.old kinds.old depths.old tops.old values.old counts.old parts.old held.now next.old }
+    ensures { (q : NewAsked k x m z n w program.now.exprs places.now program.now.variable_of program.now.variable_type program.now.stmts program.now.inits program.now.state_of program.now.state_entry ids.old kinds.old depths.old tops.old values.old counts.old parts.old held.now next.old) (t : ℕ) (α : List Reply) → Created q t α result ids.new kinds.new depths.new tops.new values.new counts.new parts.new next.new }
 {
-    let mut own: [u64; Program::VARIABLES + 3] = [0; Program::VARIABLES + 3];
-    if !init_values(
-        exprs, places, variables, types, inits, values, &mut own, k, z, n, w,
-    ) {
-        return Outcome::Refused(Answer::WrongType);
-    }
+    let mut own = init_values(program, places, values, k, z, n, w).ok_or(Answer::WrongType)?;
     let i = *next;
-    if SPENT <= i {
-        return Outcome::Refused(Answer::NoRoom);
+    if Program::LIVE_NUMBERS <= i as usize {
+        return Err(Answer::NoRoom);
     }
-    let to = rooms::find_room(ids, 0);
-    if to == Program::ROOMS {
-        return Outcome::Refused(Answer::NoRoom);
-    }
+    let to = rooms::find_room(ids, 0).ok_or(Answer::NoRoom)?;
     let id = codes::code(Value::Id(Live(i)));
-    values[k * (Program::VARIABLES + 3) + index(places[wide(x)])] = id;
+    let y = usize::from(places[usize::from(x)]);
+    values[k * (Program::VARIABLES + 3) + y] = id;
     remaining::finish_head(counts, parts, k, held[k] != 0);
-    own[THIS] = id;
-    let state = initial_state(owners, m);
-    let entry = tables::entry_of(owners, entries, state);
+    own[Program::THIS] = id;
+    let state = initial_state(&program.state_of, m);
+    let entry = tables::entry_of(&program.state_of, &program.state_entry, state);
     lay_new(
-        stmts,
+        &program.stmts,
         ids,
         kinds,
         depths,
@@ -119,5 +101,5 @@ pub fn new_on<'a, 'b>(
         entry,
     );
     *next = i + 1;
-    Outcome::Took(Rule::NEW)
+    Ok(Rule::NEW)
 }

@@ -1,5 +1,5 @@
 -- The flat lists with a room that became free; and that this is DELETE.
-use Rattle.std.specs.Prelude.{ℕ, ◌*◌, ◌<◌, ◌≡◌, refl, List, set, replicate}
+use Rattle.std.specs.Prelude.{ℕ, ◌*◌, ◌<◌, ◌≡◌, refl, List, set, replicate, Ok}
 use Rattle.std.proofs.Common.{ap, sym, ◌∙◌, subst}
 use Rattle.std.proofs.Math.Option.{Option, none}
 use Rattle.std.proofs.lemmas.List.{length-replicate}
@@ -10,9 +10,9 @@ use Rattle.rules.specs.declared.Rule.TheVariants.{DELETE}
 use Rattle.rules.specs.Act.{deletes}
 use Rattle.rules.specs.Step as definition
 use Rattle.configs.specs.Encode.{free, written}
-use Rattle.configs.specs.Flat.{Flat, Sized, flat}
+use Rattle.configs.specs.declared.Flat.{Flat}
+use Rattle.configs.specs.Flat.{Sized, flat}
 use Rattle.laying.specs.Laying.{Wide, Placed, laid_placed}
-use Rattle.engine.specs.declared.Outcome.TheVariants.{Took}
 use Rattle.engine.specs.Engine.{Performed}
 use Rattle.rooms.specs.Places.{gone_set}
 use Rattle.rooms.specs.Standing.{Lives, next_is, change_written}
@@ -39,7 +39,7 @@ cleared_placed f k states maps values parts pairs s h a b c d e = subst (Placed 
 
 -- DELETE of the machine in room k
 pub performed_delete : (p : Program) (f : Flat) (c : Config) (k : ℕ) (m : Machine) (g : Flat) → Lives p f c k m → Placed f k free g → g.next ≡ f.next
-    → Performed f (definition.perform p c m.this m deletes) (Took DELETE) g
+    → Performed f (definition.perform p c m.this m deletes) (Ok DELETE) g
 performed_delete p f c k m g a d n = (
   refl,
   (

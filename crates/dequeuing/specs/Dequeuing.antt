@@ -1,5 +1,5 @@
 -- DEQUEUE: what it is asked of the lists that it is lent, and that what it leaves is what the definitions have.
-use Rattle.std.specs.Prelude.{ℕ, ◌+◌, ◌-◌, ◌*◌, ◌%◌, ◌≤◌, ◌<◌, ◌≡◌, refl, true, List, [], ◌∷◌, map, length, take, get_or, set}
+use Rattle.std.specs.Prelude.{ℕ, ◌+◌, ◌-◌, ◌*◌, ◌%◌, ◌≤◌, ◌<◌, ◌≡◌, refl, true, List, [], ◌∷◌, map, length, take, get_or, set, Ok, Err}
 use Rattle.std.proofs.Common.{sym, ap, ◌∙◌, subst, arith, get_or-set_same}
 use Rattle.std.proofs.Math.Option
 use Rattle.std.proofs.lemmas.List.{length-map}
@@ -23,13 +23,13 @@ use Rattle.codes.specs.Pairs.{pair_event, pair_value, CanonicalPair, pair_event_
 use Rattle.configs.specs.Decode.{pair_of}
 use Rattle.configs.specs.Encode.{pair_number, taken}
 use Rattle.configs.proofs.RoundTrip.{holdable, machine_back}
-use Rattle.configs.specs.Flat.{Flat, flat, room_path}
+use Rattle.configs.specs.declared.Flat.{Flat}
+use Rattle.configs.specs.Flat.{flat, room_path}
 use Rattle.maps.specs.Maps.{Tables, Asked, map_at}
 use Rattle.queues.specs.Queues.{QueueOk, queue_at, Removed, Becomes, queue_length, becomes_ok, becomes_queue, remove_becomes}
 use Rattle.queues.specs.Meaning.{remove_canonical}
 use Rattle.parts.specs.Parts.{Said, tidied}
-use Rattle.engine.specs.declared.Outcome.{Outcome}
-use Rattle.engine.specs.declared.Outcome.TheVariants.{Took, Refused}
+use Rattle.engine.specs.Outcome.{Outcome}
 use Rattle.engine.specs.Engine.{Changed, Dequeued}
 use Rattle.engine.specs.Holding.{Elsewhere, RowHeld, RowBecomes, untouched, touched, touched_place, touched_then}
 use Rattle.remaining.specs.Remaining.{Placing}
@@ -76,7 +76,7 @@ pub record Good (p : Program) (x : ℕ) : Type 0 where
   pub there : There (length p.events) (pair_event x)
   pub rest : x % 1099511627776 ≡ code_of (pair_value x)
 
-module _ (says stmts kinds exits flags : List ℕ) (k : ℕ) (depths states maps values counts parts held waiting pairs : List ℕ)
+module _ {says stmts kinds exits flags : List ℕ} {k : ℕ} {depths states maps values counts parts held waiting pairs : List ℕ}
     (a : DequeueAsked says stmts kinds exits flags k depths states maps values counts parts held waiting pairs) where
   -- the lists
   abbrev lists : Flat
@@ -96,23 +96,23 @@ module _ (says stmts kinds exits flags : List ℕ) (k : ℕ) (depths states maps
   -- ITS STACK
   -- has a frame
   pub dequeue_deep : Deep k depths states maps
-  dequeue_deep = deep_here k depths states maps counts parts held here
+  dequeue_deep = deep_here here
 
   -- whose state has a row in the tables
   pub dequeue_state : get_or states (k * 8 + (get_or depths k 0 - 1)) 0 ≤ 64
-  dequeue_state = state_64 k depths states maps counts parts held here
+  dequeue_state = state_64 here
 
   -- its state
   state_is : get_or states (k * 8 + (get_or depths k 0 - 1)) 0 ≡ a.top.state
-  state_is = top_state k depths states maps a.top a.below (stack_here k depths states maps counts parts held here)
+  state_is = top_state k depths states maps a.top a.below (stack_here here)
 
   -- its map
   map_is : map_at a.program (k * 512 + (get_or depths k 0 - 1) * 64) maps ≡ a.top.map
-  map_is = top_map k depths states maps a.top a.below (stack_here k depths states maps counts parts held here) a.program (framed_here k depths states maps counts parts held here)
+  map_is = top_map k depths states maps a.top a.below (stack_here here) a.program (framed_here here)
 
   -- ITS ROW has room for one statement
   pub dequeue_placing : (s : ℕ) → Placing stmts k counts parts s 0
-  dequeue_placing s = placing_here k depths states maps counts parts held here stmts s a.said
+  dequeue_placing s = placing_here here stmts s a.said
 
   -- ITS QUEUE
   -- as many pairs as are counted
@@ -186,7 +186,7 @@ module _ (says stmts kinds exits flags : List ℕ) (k : ℕ) (depths states maps
         ∙ ap (λ (q : List Pair). Option.map (definition.taken a.program a.machine.loc a.top) (pull a.program a.top.state a.top.map q)) queue_is
 
     -- NONE
-    pub dequeue_none : get_or waiting k 0 ≤ r → Dequeued lists k a.machine (definition.takes a.program a.machine.loc a.machine.loc.stack a.machine.queue) (Refused UnableToStep) lists
+    pub dequeue_none : get_or waiting k 0 ≤ r → Dequeued lists k a.machine (definition.takes a.program a.machine.loc a.machine.loc.stack a.machine.queue) (Err UnableToStep) lists
     dequeue_none h =
         rw (takes_is, takes_none a.program a.top.state a.top.map pairs waiting k dequeue_queue r first h) (refl, refl)
 
@@ -277,7 +277,7 @@ module _ (says stmts kinds exits flags : List ℕ) (k : ℕ) (depths states maps
         -- which is DEQUEUE's, where s is the state's exit or skip for the event e
         pub dequeue_some : (e : ℕ) → e ≡ pair_event x → ((p : Program) (entries flags : List ℕ) → Tables p says kinds entries exits flags → e ≤ length p.events
             → s ≡ exit_or_skip p (get_or states (k * 8 + (get_or depths k 0 - 1)) 0) (map_at p (k * 512 + (get_or depths k 0 - 1) * 64) maps) e)
-            → Dequeued lists k a.machine (definition.takes a.program a.machine.loc a.machine.loc.stack a.machine.queue) (Took DEQUEUE)
+            → Dequeued lists k a.machine (definition.takes a.program a.machine.loc a.machine.loc.stack a.machine.queue) (Ok DEQUEUE)
             (flat a.ids a.owners depths states maps values' counts' parts' held' waiting' pairs' a.next)
         dequeue_some e is exit =
             let q : s ≡ exit_or_skip a.program a.top.state a.top.map (pair_event x) =

@@ -1,5 +1,5 @@
 -- Which case of the definitions' act a machine is in, by the numbers that stand in its room: "In a step: 20, 19, then 13, then left to right through the statement".
-use Rattle.std.specs.Prelude.{ℕ, ◌+◌, ◌-◌, ◌*◌, ◌≤◌, ◌<◌, ◌≡◌}
+use Rattle.std.specs.Prelude.{ℕ, ◌+◌, ◌-◌, ◌*◌, ◌≤◌, ◌<◌, ◌≡◌, Err}
 use Rattle.std.proofs.Math.Path.{refl, ap}
 use Rattle.std.proofs.Common.{sym, ◌∙◌, arith, get_or-append-add}
 use Rattle.std.proofs.Math.Option.{Option, none}
@@ -19,8 +19,7 @@ use Rattle.rules.specs.Act.{refuses, dequeues, does, pends, act}
 use Rattle.rules.specs.Step as definition
 use Rattle.configs.specs.declared.Room.{Room}
 use Rattle.configs.specs.Encode.{held_code}
-use Rattle.configs.specs.Flat.{Flat}
-use Rattle.engine.specs.declared.Outcome.TheVariants.{Refused}
+use Rattle.configs.specs.declared.Flat.{Flat}
 use Rattle.engine.specs.Engine.{Performed}
 use Rattle.rooms.specs.Standing.{Lives, lives_found, lives_taken}
 
@@ -30,7 +29,7 @@ last_of s r = ap (λ (l : List ℕ). get_or l (length r) 0) (reverse-cons s r) �
 
 -- 19: the number is not live
 pub step_nobody : (p : Program) (f : Flat) (c : Config) (i w : ℕ) → find i c.rooms ≡ none
-    → Performed f (definition.step p c (record { machine = i; bits = w })) (Refused UnableToStep) f
+    → Performed f (definition.step p c (record { machine = i; bits = w })) (Err UnableToStep) f
 unfolding definition.step
 step_nobody p f c i w e = rw e (refl, refl)
 

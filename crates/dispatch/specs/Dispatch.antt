@@ -1,5 +1,5 @@
 -- The step by the cases of a machine: what the functions of its rules are asked, and that what they leave is what the definitions' step has.
-use Rattle.std.specs.Prelude.{ℕ, ◌<◌, ◌≡◌, refl, List, [], get_or}
+use Rattle.std.specs.Prelude.{ℕ, ◌<◌, ◌≡◌, refl, Some, None, List, [], get_or, Err}
 use Rattle.std.proofs.Common.{ap, sym, ◌∙◌, subst, arith}
 use Rattle.std.proofs.Math.Option.{none}
 use Rattle.lists.specs.Facts.{All-get_d}
@@ -12,11 +12,10 @@ use Rattle.acceptance.specs.Accepted.{PendingOk, RoomOk, MachineOk}
 use Rattle.rules.specs.Act.{Act, dequeues, refuses, act, pends}
 use Rattle.rules.specs.Step as definition
 use Rattle.configs.specs.Encode.{held_code}
-use Rattle.configs.specs.Flat.{Flat}
-use Rattle.engine.specs.declared.Outcome.{Outcome}
-use Rattle.engine.specs.declared.Outcome.TheVariants.{Refused}
+use Rattle.configs.specs.declared.Flat.{Flat}
+use Rattle.engine.specs.Outcome.{Outcome}
 use Rattle.engine.specs.Engine.{Acted, Dequeued, Performed}
-use Rattle.rooms.specs.Places.{First, find_none}
+use Rattle.rooms.specs.Places.{Found, find_none}
 use Rattle.parts.specs.Parts.{Said}
 use Rattle.rooms.specs.Standing.{Lives, lives_ok, lives_stands, found, not_found, performed_own, performed_dequeue}
 use Rattle.remaining.specs.Held.{row_33}
@@ -43,17 +42,17 @@ module _ {exprs stmts inits types owners vartypes doers bodies homes entries exi
       let ok : MachineOk p a.c.next m = subst (RoomOk p a.c.next) e (All-get_d (RoomOk p a.c.next) none a.c.rooms j tt a.accepted.each_room) in
       omega (arith, ok.low, n))
 
-  pub step_zero : i ≡ 0 → Performed f step_outcome (Refused UnableToStep) f
+  pub step_zero : i ≡ 0 → Performed f step_outcome (Err UnableToStep) f
   step_zero e = step_nobody p f a.c i w (rw e nobody_0)
 
   -- or none has it
-  pub step_none : (k : ℕ) → (i ≡ 0 → ⊥) → First f.ids i k → k ≡ 32 → Performed f step_outcome (Refused UnableToStep) f
-  step_none k n q e = step_nobody p f a.c i w (not_found p f a.c a.sized a.holds a.accepted i k (omega (arith, n)) q (omega (arith, e)))
+  pub step_none : (i ≡ 0 → ⊥) → Found f.ids i None → Performed f step_outcome (Err UnableToStep) f
+  step_none n q = step_nobody p f a.c i w (not_found p f a.c a.sized a.holds a.accepted i 32 (omega (arith, n)) q (omega arith))
 
   -- THE MACHINE
-  module _ (k : ℕ) (n : i ≡ 0 → ⊥) (q : First f.ids i k) (b : k ≡ 32 → ⊥) where
+  module _ (k : ℕ) (n : i ≡ 0 → ⊥) (q : Found f.ids i (Some k)) where
     abbrev there : (m : Machine) × (Lives p f a.c k m × (m.this ≡ i))
-    there = found p f a.c a.sized a.holds a.accepted i k (omega (arith, n)) q (omega (arith, q.inside, b))
+    there = found p f a.c a.sized a.holds a.accepted i k (omega (arith, n)) q.1 q.0
 
     abbrev m : Machine
     m = there.0
@@ -70,8 +69,8 @@ module _ {exprs stmts inits types owners vartypes doers bodies homes entries exi
     by_act x e = ap (λ (j : ℕ). definition.step p a.c (record { machine = j; bits = w })) (sym there.1.1) ∙ step_act p f a.c k m lives w ∙ ap (definition.perform p a.c m.this m) e
 
     -- 13
-    pub step_empty : get_or f.depths k 0 ≡ 0 → Performed f step_outcome (Refused StackEmpty) f
-    step_empty e = subst (λ o. Performed f o (Refused StackEmpty) f) (sym (by_act (refuses StackEmpty) (case_empty p f a.c k m lives w e))) (refl, refl)
+    pub step_empty : get_or f.depths k 0 ≡ 0 → Performed f step_outcome (Err StackEmpty) f
+    step_empty e = subst (λ o. Performed f o (Err StackEmpty) f) (sym (by_act (refuses StackEmpty) (case_empty p f a.c k m lives w e))) (refl, refl)
 
     -- A STACK
     module _ (d : get_or f.depths k 0 ≡ 0 → ⊥) where

@@ -1,15 +1,18 @@
 -- The live numbers of all rooms in their flat list: that the rooms' are distinct is that no two places hold the same number other than 0.
-use Prim.Native.Nat.{ℕ, zero, suc, ◌+◌, ◌≤◌, ◌<◌}
-use Rattle.std.specs.Prelude.{◌≡◌, Bool, true, false, cond, List, ◌∷◌, map, eqb}
+use Prim.Native.Nat.{ℕ, zero, suc, ◌+◌, ◌-◌, ◌≤◌, ◌<◌}
+use Rattle.std.specs.Prelude.{◌≡◌, Bool, true, false, not, ◌||◌, cond, List, [], ◌∷◌, map, eqb, length, take, drop}
+use Rattle.std.specs.List.{list_any}
 use Rattle.std.proofs.Math.Path.{refl, ap}
 use Rattle.std.proofs.Common.{sym, ◌∙◌, true≢false}
 use Rattle.std.proofs.Math.Logic.{dite}
 use Rattle.std.proofs.Math.Option.{Option, none, some, none-ne-some}
 use Rattle.std.proofs.Math.Decide.{ℕ_discrete}
 use native.Mathlib.Omega.{arith}
-use borrow.Author.Tests.{eqb-false, ne_eqb}
-use Rattle.std.proofs.Math.ListN.{get_or}
-use Rattle.lists.specs.Tells.{Tells, form}
+use borrow.Author.Tests.{eqb-true, eqb-false, ne_eqb}
+use Rattle.std.proofs.Math.ListN.{get_or, length-drop}
+use Rattle.std.proofs.Math.Seq.{get_or-drop}
+use Rattle.std.proofs.lemmas.List.{take_all}
+use Rattle.lists.specs.Tells.{Tells, form, granted, refuted}
 use Rattle.rows.specs.Seek.{table}
 use Rattle.programs.specs.Sizes.{LIVE}
 use Rattle.programs.specs.Program.{Program}
@@ -17,7 +20,8 @@ use Rattle.machines.specs.Config.{Machine}
 use Rattle.machines.specs.Rooms.{find}
 use Rattle.acceptance.specs.Accepted.{Distinct}
 use Rattle.configs.specs.Decode.{machine_of, room_of}
-use Rattle.configs.specs.Flat.{Flat, room_at, flat_config}
+use Rattle.configs.specs.declared.Flat.{Flat}
+use Rattle.configs.specs.Flat.{room_at, flat_config}
 
 -- WHAT IS LOOKED AT
 -- room i is free, or no later room holds its number
@@ -102,3 +106,27 @@ pub distinct_told : (ids : List ℕ) {r : Bool} → Tells r (Singles ids) → (p
 distinct_told ids t p f e = form t
     (λ h. singles_distinct p f 0 32 (λ i j a l b. rw e (h i (omega arith) j l (omega arith))))
     (λ d i b j l c q. rw e at (distinct_singles p f 0 32 d i j (omega arith) l (omega arith) (rw e q)))
+
+-- THE SEARCH behind room i
+none_is : (x : ℕ) (l : List ℕ) → Tells (not (list_any (λ y. eqb y x) l)) ((j : ℕ) → j < length l → get_or l j 0 ≡ x → ⊥)
+none_is x [] = granted (λ j h e. omega arith)
+none_is x (y ∷ l) = go (none_is x l) (eqb y x) refl
+  where
+    other : eqb y x ≡ false → ((j : ℕ) → j < length l → get_or l j 0 ≡ x → ⊥) → (j : ℕ) → j < suc (length l) → get_or (y ∷ l) j 0 ≡ x → ⊥
+    other e f zero h q = eqb-false y x e q
+    other e f (suc j) h q = f j (omega arith) q
+
+    go : Tells (not (list_any (λ z. eqb z x) l)) ((j : ℕ) → j < length l → get_or l j 0 ≡ x → ⊥) → (b : Bool) → eqb y x ≡ b → Tells (not (b || list_any (λ z. eqb z x) l)) ((j : ℕ) → j < suc (length l) → get_or (y ∷ l) j 0 ≡ x → ⊥)
+    go t true e = refuted (λ f. f 0 (omega arith) (eqb-true y x e))
+    go t false e = form t (other e) (λ f j h q. f (suc j) (omega arith) q)
+
+-- tells whether a number other than 0 stands there once
+pub single_told : (ids : List ℕ) (i : ℕ) → i < 32 → length ids ≡ 32 → (get_or ids i 0 ≡ 0 → ⊥)
+    → Tells (not (list_any (λ y. eqb y (get_or ids i 0)) (take (32 - (i + 1)) (drop (i + 1) ids)))) (Single ids i)
+single_told ids i r l n =
+    let long : length (drop (i + 1) ids) ≤ 32 - (i + 1) = omega (arith, length-drop (i + 1) ids) in
+    rw (take_all (32 - (i + 1)) (drop (i + 1) ids) long) (form (none_is (get_or ids i 0) (drop (i + 1) ids))
+    (λ f j a b q.
+    let e : i + 1 + (j - (i + 1)) ≡ j = omega arith in
+    absurd (f (j - (i + 1)) (omega (arith, length-drop (i + 1) ids)) (get_or-drop (i + 1) ids (j - (i + 1)) 0 ∙ ap (λ (k : ℕ). get_or ids k 0) e ∙ q)))
+    (λ s j h q. n (s (i + 1 + j) (omega arith) (omega (arith, length-drop (i + 1) ids)) (sym (get_or-drop (i + 1) ids j 0) ∙ q))))

@@ -5,7 +5,8 @@ ghost use Rattle.std.specs.Prelude.{◌≡◌, ◌<◌};
 ghost use Rattle.lists.specs.Tells.{Tells};
 ghost use Rattle.programs.specs.Program.{Program as Lines};
 ghost use Rattle.acceptance.specs.Accepted.{Distinct};
-ghost use Rattle.configs.specs.Flat.{Flat, flat_config};
+ghost use Rattle.configs.specs.declared.Flat.{Flat};
+ghost use Rattle.configs.specs.Flat.{flat_config};
 ghost use Rattle.distinct.specs.Distinct.{Single};
 
 use tables::Program;
@@ -16,29 +17,12 @@ fn single(ids: &[u32; Program::ROOMS], i: usize) -> bool
     ensures { Tells result (Single ids.now i) }
 {
     let this = ids[i];
-    if this == 0 {
-        return true;
-    }
-    let mut j = i + 1;
-    while j < Program::ROOMS {
-        if ids[j] == this {
-            return false;
-        }
-        j += 1;
-    }
-    true
+    this == 0 || !ids[i + 1..].contains(&this)
 }
 
 // THE LIVE NUMBERS of all rooms.
 pub fn distinct_ok(ids: &[u32; Program::ROOMS]) -> bool
     ensures { (p : Lines) (f : Flat) → f.ids ≡ ids.now → Tells result (Distinct (flat_config p f).rooms) }
 {
-    let mut i: usize = 0;
-    while i < Program::ROOMS {
-        if !single(ids, i) {
-            return false;
-        }
-        i += 1;
-    }
-    true
+    (0..Program::ROOMS).all(|i| single(ids, i))
 }

@@ -5,8 +5,4 @@ use answers::Answer;
 use rules::Rule;
 
 // A choice takes a step by a rule, or it is refused with an answer.
-#[derive(Clone, Copy)]
-pub enum Outcome {
-    Took(Rule),
-    Refused(Answer),
-}
+pub type Outcome = Result<Rule, Answer>;

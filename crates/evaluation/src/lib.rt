@@ -1,5 +1,6 @@
 // Expressions worked out, in the store that the configuration's arrays hold. What comes out stands in specs/Evaluated.antt: the value's number, and
 // the bits that the stars leave, in one number, so that a call of `eval` needs little of the stack.
+// stays: may not change: evaluated, which reads these three arrays, the values from a place on, and has both numbers in one
 #![tactic(auto)]
 
 ghost use Rattle.std.specs.Prelude.{◌≡◌, ◌+◌, ◌*◌, ◌/◌, ◌%◌, ◌<◌, length, get_or};
@@ -10,21 +11,10 @@ ghost use Rattle.codes.specs.Codes.{code_of, value_of};
 ghost use Rattle.programs.specs.Trees.{tip};
 ghost use Rattle.evaluation.specs.Evaluated.{REST, store_in, packed, evaluated, Readable};
 
+use codes::REST;
 use programs::{Expr, Leaf};
-use tables::{Program, index};
+use tables::Program;
 use values::{Binary, Unary, Value};
-
-// Where the bits begin: above every value's number.
-const REST: u64 = 1099511627776;
-
-// Where this, msg and arg stand: this behind the variables,
-const THIS: usize = Program::VARIABLES;
-
-// msg behind it,
-const MSG: usize = Program::VARIABLES + 1;
-
-// arg behind msg.
-const ARG: usize = Program::VARIABLES + 2;
 
 // A value's number with the bits that are left.
 fn pack(x: u64, rest: u64) -> u64
@@ -39,11 +29,7 @@ fn place(places: &[u8; Program::ALL_VARIABLES + 1], x: u16) -> usize
     requires { (length places.now ≡ 257) × All (λ n. n < 16) places.now }
     ensures { (result ≡ get_or places.now x 0) × (result < 16) }
 {
-    if x as usize <= Program::ALL_VARIABLES {
-        index(places[x as usize])
-    } else {
-        0
-    }
+    places.get(usize::from(x)).copied().map_or(0, usize::from)
 }
 
 // A bool's number.
@@ -69,9 +55,9 @@ fn leaf_code(
         Leaf::Int(z) => pack(codes::code(Value::Int(z)), w),
         Leaf::Bool(b) => pack(bool_code(b), w),
         Leaf::Var(x) => pack(values[at + place(places, x)], w),
-        Leaf::This => pack(values[at + THIS], w),
-        Leaf::Msg => pack(values[at + MSG], w),
-        Leaf::Arg => pack(values[at + ARG], w),
+        Leaf::This => pack(values[at + Program::THIS], w),
+        Leaf::Msg => pack(values[at + Program::MSG], w),
+        Leaf::Arg => pack(values[at + Program::ARG], w),
         Leaf::Star => pack(bool_code(w % 2 == 1), w / 2),
     }
 }
@@ -110,30 +96,55 @@ pub fn eval(
     requires { Readable places.now values.now at × (w < 256) }
     ensures { result ≡ evaluated exprs.now places.now values.now at e w }
 {
-    let x = terms::expr_at(exprs, e);
-    match x {
+    match terms::expr_at(exprs, e) {
         Expr::Leaf(l) => leaf_code(places, values, at, l, w),
         Expr::Unary(op, i) => {
-            let u = if e <= i as usize {
+            let i = usize::from(i);
+            let u = if e <= i {
                 w * REST
             } else {
-                eval(exprs, places, values, at, i as usize, w)
+                eval(exprs, places, values, at, i, w)
             };
             unary_code(op, u)
         }
         Expr::Binary(op, i, j) => {
-            let u = if e <= i as usize {
+            let i = usize::from(i);
+            let j = usize::from(j);
+            let u = if e <= i {
                 w * REST
             } else {
-                eval(exprs, places, values, at, i as usize, w)
+                eval(exprs, places, values, at, i, w)
             };
             let rest = u / REST;
-            let v = if e <= j as usize {
+            let v = if e <= j {
                 rest * REST
             } else {
-                eval(exprs, places, values, at, j as usize, rest)
+                eval(exprs, places, values, at, j, rest)
             };
             binary_code(op, u, v)
         }
     }
+}
+
+// The number of the value of expression e in the machine of room k, under the bits w.
+pub fn number(
+    exprs: &[u32; 3 * (Program::EXPRESSIONS + 1)],
+    places: &[u8; Program::ALL_VARIABLES + 1],
+    values: &[u64; (Program::VARIABLES + 3) * Program::ROOMS],
+    k: usize,
+    e: u16,
+    w: u64,
+) -> u64
+    requires { Readable places.now values.now (k * 19) × (w < 256) }
+    ensures { result ≡ evaluated exprs.now places.now values.now (k * 19) e w % REST }
+{
+    let x = eval(
+        exprs,
+        places,
+        values,
+        k * (Program::VARIABLES + 3),
+        usize::from(e),
+        w,
+    );
+    x % REST
 }

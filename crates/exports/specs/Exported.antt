@@ -1,11 +1,11 @@
 -- What the exported functions answer: the same in numbers.
+use Rattle.std.specs.Prelude.{Ok, Err}
 use Rattle.answers.specs.Number.{number}
 use Rattle.labels.specs.Labels.{rule_number}
-use Rattle.tabled.specs.declared.Loaded.{Loaded}
-use Rattle.engine.specs.declared.Outcome.{Outcome}
-use Rattle.engine.specs.declared.Outcome.TheVariants.{Took, Refused}
+use Rattle.tabled.specs.Tabled.{Loaded}
+use Rattle.engine.specs.Outcome.{Outcome}
 use Rattle.handed_runs.specs.declared.Ending.{Ending}
-use Rattle.starting.specs.declared.Started.{Started}
+use Rattle.starting.specs.Started.{Started}
 use Rattle.exports.specs.declared.LoadNumbers.{LoadNumbers}
 use Rattle.exports.specs.declared.StartNumbers.{StartNumbers}
 use Rattle.exports.specs.declared.StepNumbers.{StepNumbers}
@@ -21,8 +21,8 @@ start_numbers s = record { config = s.config; answer = number s.answer }
 
 -- an outcome: 0 and the rule of the step, or the answer
 abbrev pub step_numbers : Outcome → StepNumbers
-step_numbers (Took R) = record { answer = 0; rule = rule_number R }
-step_numbers (Refused a) = record { answer = number a; rule = 0 }
+step_numbers (Ok R) = record { answer = 0; rule = rule_number R }
+step_numbers (Err a) = record { answer = number a; rule = 0 }
 
 -- an ending
 abbrev pub end_numbers : Ending → EndNumbers

@@ -6,8 +6,7 @@ use Rattle.values.specs.declared.Value.{Value}
 use Rattle.values.specs.declared.Value.TheVariants.{Undefined as undefined, Bool as vbool, Int as vint, Event as vevent, Id as vid}
 use Rattle.codes.specs.Codes.{code_of}
 use Rattle.codes.specs.Pairs.{pair_event, pair_value}
-use Rattle.showing.specs.declared.Living.{Living}
-use Rattle.showing.specs.declared.Shown.{Shown}
+use Rattle.showing.specs.Shown.{Living, Shown}
 use Rattle.exports.specs.declared.LiveNumbers.{LiveNumbers}
 use Rattle.exports.specs.declared.MachineNumbers.{MachineNumbers}
 use Rattle.exports.specs.declared.ValueNumbers.{ValueNumbers}

@@ -2,10 +2,11 @@
 // rules. The configuration is held by the caller, who lends it for a step and for a run. Other functions read it: which machines live, one machine, a value, a pair.
 #![tactic(auto)]
 
-ghost use Rattle.std.specs.Prelude.{◌≡◌, cond, pos, length};
+ghost use Rattle.std.specs.Prelude.{◌≡◌, length};
 ghost use Rattle.answers.specs.Number.{number};
 ghost use Rattle.codes.specs.Codes.{value_of};
-ghost use Rattle.tabled.specs.Tabled.{load_of};
+ghost use Rattle.texts.specs.Reading.{refused};
+ghost use Rattle.tabled.specs.Tabled.{loaded_as, load_of};
 ghost use Rattle.handed.specs.Handed.{fit, step_of};
 ghost use Rattle.handed_runs.specs.HandedRuns.{run_of, rules_of, regroup_of, numbers_of, fronted};
 ghost use Rattle.starting.specs.Started.{start_of};
@@ -19,6 +20,8 @@ use engine::Outcome;
 use handed_runs::Ending;
 use tables::{Kind, Program};
 use values::{Live, Value};
+
+// stays: the C interface: what each function answers lies in one of these structs, whose fields C reads: answers, rules and kinds as numbers, counts beside their arrays
 
 // What a text is loaded as.
 #[repr(C)]
@@ -100,11 +103,11 @@ fn step_numbers(o: Outcome) -> StepNumbers
     ensures { result ≡ step_numbers o }
 {
     match o {
-        Outcome::Took(rule) => StepNumbers {
+        Ok(rule) => StepNumbers {
             answer: 0,
             rule: labels::rule_number(rule),
         },
-        Outcome::Refused(a) => StepNumbers {
+        Err(a) => StepNumbers {
             answer: numbers::number(a),
             rule: 0,
         },
@@ -115,19 +118,11 @@ fn step_numbers(o: Outcome) -> StepNumbers
 fn end_numbers(e: Ending) -> EndNumbers
     ensures { result ≡ end_numbers e }
 {
-    let a = e.answer;
     EndNumbers {
-        answer: numbers::number(a),
+        answer: numbers::number(e.answer),
         place: e.place,
         steps: e.steps,
     }
-}
-
-// A bool as 1 or 0.
-fn bit(b: bool) -> i64
-    ensures { result ≡ pos (cond b 1 0) }
-{
-    if b { 1 } else { 0 }
 }
 
 // A value in numbers.
@@ -138,20 +133,33 @@ fn value_numbers(v: Value) -> ValueNumbers
         Value::Undefined => ValueNumbers { kind: 0, number: 0 },
         Value::Bool(b) => ValueNumbers {
             kind: 1,
-            number: bit(b),
+            number: i64::from(b),
         },
         Value::Int(z) => ValueNumbers {
             kind: 2,
-            number: z as i64,
+            number: i64::from(z),
         },
         Value::Event(e) => ValueNumbers {
             kind: 3,
-            number: e as i64,
+            number: i64::from(e),
         },
         Value::Id(i) => ValueNumbers {
             kind: 4,
-            number: i.0 as i64,
+            number: i64::from(i.0),
         },
+    }
+}
+
+// What a text that is refused is loaded as: the program of no lines, and no choices.
+fn nothing_loaded(answer: Answer, line: usize) -> LoadNumbers
+    ensures { result ≡ load_numbers (loaded_as (refused answer line)) }
+{
+    LoadNumbers {
+        program: gathering::no_tables(),
+        choices: [0; Program::CHOICES],
+        count: 0,
+        answer: numbers::number(answer),
+        line,
     }
 }
 
@@ -159,16 +167,19 @@ fn value_numbers(v: Value) -> ValueNumbers
 pub fn namakviz_load(text: &[u8]) -> LoadNumbers
     ensures { result ≡ load_numbers (load_of text.now) }
 {
-    let l = loading::load(text);
-    let program = l.program;
-    let choices = l.choices;
-    let a = l.answer;
-    LoadNumbers {
-        program: program,
-        choices: choices,
-        count: l.count,
-        answer: numbers::number(a),
-        line: l.line,
+    match loading::load(text) {
+        Ok(l) => {
+            // stays: the proof did not close: the check of loans wants an array that is a field in a local first
+            let choices = l.choices;
+            LoadNumbers {
+                program: l.program,
+                choices,
+                count: l.count,
+                answer: 0,
+                line: 0,
+            }
+        }
+        Err(refusal) => nothing_loaded(refusal.answer, refusal.line),
     }
 }
 
@@ -176,12 +187,12 @@ pub fn namakviz_load(text: &[u8]) -> LoadNumbers
 pub fn namakviz_start(program: Program) -> StartNumbers
     ensures { result ≡ start_numbers (start_of program) }
 {
-    let s = starting::start(program);
-    let config = s.config;
-    let a = s.answer;
-    StartNumbers {
-        config: config,
-        answer: numbers::number(a),
+    match starting::start(&program) {
+        Ok(config) => StartNumbers { config, answer: 0 },
+        Err(a) => StartNumbers {
+            config: starting::no_machine(),
+            answer: numbers::number(a),
+        },
     }
 }
 
@@ -208,30 +219,41 @@ pub fn namakviz_run(
 pub fn namakviz_regroup(program: Program, c: Config, choices: &[u32], out: &mut [u32]) -> u8
     ensures { (result ≡ number (regroup_of program c choices.now (length out.old)).answer) × (out.new ≡ fronted (numbers_of (regroup_of program c choices.now (length out.old))) out.old) }
 {
-    numbers::number(grouping::regroup(program, c, choices, out))
+    match grouping::regroup(program, c, choices, out) {
+        Ok(()) => 0,
+        Err(a) => numbers::number(a),
+    }
 }
 
 // THE TEST of what is handed in: 0, or 20.
 pub fn namakviz_fit(program: Program, c: Config) -> u8
     ensures { result ≡ fit_number (fit program c) }
 {
-    if fitting::fit(program, c) {
-        return numbers::number(Answer::Done);
+    if !fitting::fit(&program, &c) {
+        return numbers::number(Answer::NotAccepted);
     }
-    numbers::number(Answer::NotAccepted)
+    numbers::number(Answer::Done)
 }
 
 // THE MACHINES THAT LIVE.
 pub fn namakviz_live(program: Program, c: Config) -> LiveNumbers
     ensures { result ≡ living_numbers (live_of program c) }
 {
-    let living = showing::live(program, c);
-    let a = living.answer;
-    let machines = living.machines;
-    LiveNumbers {
-        answer: numbers::number(a),
-        count: living.count,
-        machines: machines,
+    match showing::live(program, c) {
+        Ok(living) => {
+            // stays: the proof did not close: as in namakviz_load
+            let machines = living.machines;
+            LiveNumbers {
+                answer: 0,
+                count: living.count,
+                machines,
+            }
+        }
+        Err(a) => LiveNumbers {
+            answer: numbers::number(a),
+            count: 0,
+            machines: [0; Program::ROOMS],
+        },
     }
 }
 
@@ -239,20 +261,32 @@ pub fn namakviz_live(program: Program, c: Config) -> LiveNumbers
 pub fn namakviz_machine(program: Program, c: Config, machine: Live) -> MachineNumbers
     ensures { result ≡ machine_numbers (shown_of program c machine) }
 {
-    let m = showing::look(program, c, machine);
-    let a = m.answer;
-    let kind = m.kind;
-    let values = m.values;
-    let pairs = m.pairs;
-    MachineNumbers {
-        answer: numbers::number(a),
-        kind: kind,
-        depth: m.depth,
-        state: m.state,
-        variables: m.variables,
-        values: values,
-        waiting: m.waiting,
-        pairs: pairs,
+    match showing::look(program, c, machine) {
+        Ok(m) => {
+            // stays: the proof did not close: as in namakviz_load
+            let values = m.values;
+            let pairs = m.pairs;
+            MachineNumbers {
+                answer: 0,
+                kind: m.kind,
+                depth: m.depth,
+                state: m.state,
+                variables: m.variables,
+                values,
+                waiting: m.waiting,
+                pairs,
+            }
+        }
+        Err(a) => MachineNumbers {
+            answer: numbers::number(a),
+            kind: Kind(0),
+            depth: 0,
+            state: 0,
+            variables: 0,
+            values: [0; Program::VARIABLES],
+            waiting: 0,
+            pairs: [0; Program::QUEUE],
+        },
     }
 }
 
@@ -268,7 +302,7 @@ pub fn namakviz_pair(x: u64) -> PairNumbers
     ensures { result ≡ pair_numbers x }
 {
     PairNumbers {
-        event: (x / 1099511627776) as u32,
-        value: codes::code(codes::value_of(x % 1099511627776)),
+        event: codes::event_of(x) as u32,
+        value: codes::code(codes::value_of(x % codes::EVENT)),
     }
 }

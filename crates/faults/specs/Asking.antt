@@ -58,12 +58,16 @@ pub record Told (types : List ℕ) (kinds : ℕ) (variable_of exprs stmts inits 
   pub same_exprs : p.exprs ≡ exprs_of exprs
   pub same_stmts : p.stmts ≡ stmts_of stmts inits
 
+-- so, by the code's tables
+abbrev pub Tells : Program → Tables → Type 0
+Tells p q = Told q.event_types q.kinds q.variable_of q.exprs q.stmts q.inits p
+
 -- LAWS FOR CALLERS: so is the program that the tables are
 pub fronted_program : (q : Tables) → Fronted q.event_types q.kinds q.variable_of (program_of q)
 fronted_program q = record { variable_types = q.variable_type; same_events = refl; same_kinds = refl; same_variables = refl }
 
 -- with its expressions and statements
-pub told_program : (q : Tables) → Told q.event_types q.kinds q.variable_of q.exprs q.stmts q.inits (program_of q)
+pub told_program : (q : Tables) → Tells (program_of q) q
 told_program q = record { fronted = fronted_program q; same_exprs = refl; same_stmts = refl }
 
 -- so many lines are in front of a program's expressions

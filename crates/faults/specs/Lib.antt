@@ -8,3 +8,9 @@ pub mod Asking
 pub mod Each
 -- the program that lent arrays read as
 pub mod Read
+-- a faulty line as an answer; what a search finds
+pub mod Lines
+-- every number up to n passes a test
+pub mod Upward
+-- what a method of std finds that goes through numbers
+pub mod Ranges

@@ -12,6 +12,7 @@ use Rattle.programs.specs.Sizes.{KINDS, EVENTS, VARIABLES, EXPRS, STMTS, ACTIONS
 use Rattle.programs.specs.Program.{Program, Move}
 use Rattle.tables.specs.Decode.{count, events_of, variables_of, exprs_of, stmts_of, actions_of, states_of, MOVES, move_in, moves_of}
 use Rattle.tables.specs.Tables.{events_length, variables_length, exprs_length, stmts_length, actions_length, states_length}
+use Rattle.tables.specs.declared.Program.{Program as Tables}
 use Rattle.soundness.specs.Asked.{Asked}
 use Rattle.soundness.specs.Sound.{lines, first_fault}
 use Rattle.faults.specs.declared.Counts.{Counts}
@@ -37,6 +38,10 @@ pub record Counted (p : Program) (c : Counts) : Type 0 where
   pub stmts : length p.stmts ≡ c.stmts
   pub actions : length p.actions ≡ c.actions
   pub states : length p.states ≡ c.states
+
+-- and how many those of the code's tables have
+abbrev pub Rows : Tables → Counts → Type 0
+Rows q c = Counting q.event_types q.kinds q.variable_of q.exprs q.stmts q.action_of q.state_of c
 
 -- none of them is large
 pub record Small (c : Counts) : Type 0 where
@@ -76,6 +81,14 @@ pub record Tabled (p : Program) (types : List ℕ) (kinds : ℕ) (owners holds e
   pub stmt : p.stmts ≡ stmts_of stmts inits
   pub action : p.actions ≡ actions_of actors bodies
   pub state : p.states ≡ states_of states entries exits flags
+
+-- p has these tables of the code's: all but the moves,
+abbrev pub Holds : Program → Tables → Type 0
+Holds p q = Tabled p q.event_types q.kinds q.variable_of q.variable_type q.exprs q.stmts q.inits q.action_of q.action_body q.state_of q.state_entry q.state_exit q.defers
+
+-- and the moves
+abbrev pub Moves : Program → Tables → Type 0
+Moves p q = Moving p q.moves q.steps q.calls q.acts
 
 -- what was counted are the program's rows
 pub counted : {p : Program} {types : List ℕ} {kinds : ℕ} {owners holds exprs stmts inits actors bodies states entries exits flags : List ℕ} {c : Counts}

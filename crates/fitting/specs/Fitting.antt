@@ -6,7 +6,8 @@ use Rattle.soundness.specs.Sound.{Sound, sound, sound_is}
 use Rattle.tables.specs.declared.Program.{Program as Tables}
 use Rattle.tables.specs.Decode.{program_of}
 use Rattle.configs.specs.declared.Config.{Config as Held}
-use Rattle.configs.specs.Flat.{Flat, held}
+use Rattle.configs.specs.declared.Flat.{Flat}
+use Rattle.configs.specs.Flat.{held}
 use Rattle.accepting.specs.Asked.{IsOne}
 use Rattle.handed.specs.Handed.{fit, fit_is}
 

@@ -1,7 +1,7 @@
 -- WHAT IS TOLD OF A LINE: the form that it is in, and where its values are.
-use Rattle.std.specs.Prelude.{ℕ, zero, suc, ◌≤◌, ◌<◌, ◌≡◌, refl, ◌&&◌, leb, length, get_or}
+use Rattle.std.specs.Prelude.{ℕ, zero, suc, ◌≤◌, ◌<◌, ◌≡◌, refl, ◌&&◌, leb, length, get_or, Option, Some, None, MatchOption}
 use Rattle.std.proofs.Common.{sym, subst, arith}
-use Rattle.std.proofs.Math.Option.{Option, none, some}
+use Rattle.std.proofs.Math.Option.{Option as Maybe, none, some}
 use Rattle.std.proofs.Math.Bool.{true, not}
 use mathlib.Core.List.{List, [], ◌∷◌}
 use borrow.Author.Tests.{leb-true, not-true}
@@ -18,7 +18,7 @@ use Rattle.shapes.specs.Scan.{zeros, scan, held}
 use Rattle.shapes.specs.Found.{Found, scan_found}
 use Rattle.forms.specs.declared.Form.{Form}
 use Rattle.forms.specs.Laid.{sound}
-use Rattle.forms.specs.Rows.{names, later, row_of}
+use Rattle.forms.specs.Rows.{names, later, row_of, formless}
 
 -- the holes of a form
 abbrev pub holes : Shape → List ℕ
@@ -31,7 +31,7 @@ row_holes (f ∷ fs) zero = holes f
 row_holes (f ∷ fs) (suc k) = row_holes fs k
 
 -- what a line in form number k says whose values are at the places p of the text s; none where there is no such form
-abbrev pub spoken_as : List Shape → List ℕ → ℕ → List ℕ → Option Said
+abbrev pub spoken_as : List Shape → List ℕ → ℕ → List ℕ → Maybe Said
 spoken_as [] s k p = none
 spoken_as (f ∷ fs) s zero p = on_opt (held (holes f) s p 0) none (λ v. some (f.1 v))
 spoken_as (f ∷ fs) s (suc k) p = spoken_as fs s k p
@@ -62,7 +62,7 @@ module _ (s : List ℕ) (a e : ℕ) (l : LineAt s a e) where
     inside = t.inside;
   }
     where
-      other : (o : Option (List Val)) → is_some o ≡ true → on_opt o (said_as fs (fields (line_of s a e))) (λ v. some (f.1 v)) ≡ on_opt o none (λ v. some (f.1 v))
+      other : (o : Maybe (List Val)) → is_some o ≡ true → on_opt o (said_as fs (fields (line_of s a e))) (λ v. some (f.1 v)) ≡ on_opt o none (λ v. some (f.1 v))
       other none h = absurd (let z : ◌≡◌ {A = ℕ} 0 1 = cc in omega arith)
       other (some w) h = refl
 
@@ -77,7 +77,7 @@ module _ (s : List ℕ) (a e : ℕ) (l : LineAt s a e) where
       go k.0 (told fs p.1) (scan (text (names (f ∷ fs))) s e a 0 zeros)
       (scan_found s e (bytes f.0) (text (names fs)) (not-true (among 10 (bytes f.0)) k.1) a 0 zeros l (omega (arith, leb-true (length (keep hole (bytes f.0))) 5 q.1)) (λ i. omega (arith, zeros_get {A = ℕ} 0 5 i)))
     where
-      go : formed key (bytes f.0) ≡ true → Told fs s a e (row_of fs s a e) → (o : Option (List ℕ)) → Found (bytes f.0) s e a 0 zeros o
+      go : formed key (bytes f.0) ≡ true → Told fs s a e (row_of fs s a e) → (o : Maybe (List ℕ)) → Found (bytes f.0) s e a 0 zeros o
           → Told (f ∷ fs) s a e (on_opt o (later (row_of fs s a e)) (λ v. record { row = 0; at = v }))
       go k t none n = told_later f fs k n (row_of fs s a e) t
       go k t (some v) n = told_here f fs k v n
@@ -88,7 +88,7 @@ unfolding formed
 forms_sound = refl
 
 -- what is told of a line by the number of its form and the places of its values
-abbrev pub spoken : List ℕ → Form → Option Said
+abbrev pub spoken : List ℕ → Form → Maybe Said
 spoken s r = spoken_as forms s r.row r.at
 
 -- WHAT IS TOLD of the line from a to e of the text s: the first form that a scan finds it in; what the line says is what that form says of the words at the
@@ -106,3 +106,9 @@ unfolding said
 recognised s a e r l q =
     let t : Told forms s a e r = subst (Told forms s a e) (sym q) (told s a e l forms forms_sound) in
     record { is = q; low = t.low; says = t.says; each = t.each; inside = t.inside }
+
+-- by the first form that is found, or none
+pub recognised_as : (s : List ℕ) (a e : ℕ) (o : Option Form) → LineAt s a e → MatchOption o (formless ≡ row_of forms s a e) (λ r. (r ≡ row_of forms s a e) × (r.row < 44))
+    → MatchOption o (Recognised s a e formless) (λ r. Recognised s a e r × (r.row < 44))
+recognised_as s a e None l q = recognised s a e formless l q
+recognised_as s a e (Some r) l q = (recognised s a e r l q.0, q.1)

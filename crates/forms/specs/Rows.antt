@@ -11,6 +11,10 @@ use Rattle.forms.specs.declared.Form.{Form}
 abbrev pub names : List Shape → List String
 names fs = map (λ f. f.0) fs
 
+-- the number and the places of a line that is in none of the 44
+abbrev pub formless : Form
+formless = record { row = 44; at = zeros }
+
 -- a form that is one further
 abbrev pub later : Form → Form
 later r = record { row = suc r.row; at = r.at }

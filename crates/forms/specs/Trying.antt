@@ -1,10 +1,10 @@
 -- The forms tried one by one, by a loop over their numbers.
 use Prim.Native.Nat.{ℕ, zero, suc, ◌+◌, ◌≤◌, ◌<◌}
 use Prim.Native.String.{[] as empty}
-use Rattle.std.specs.Prelude.{◌≡◌, refl, Bool, true, false, not, ◌&&◌, eqb, leb, drop, get_or}
+use Rattle.std.specs.Prelude.{◌≡◌, refl, true, false, not, ◌&&◌, eqb, leb, drop, get_or, Option, Some, None}
 use Rattle.std.proofs.Math.Path.{ap}
 use Rattle.std.proofs.Common.{sym, ◌∙◌, add-zero, leb-true, drop_of_length-le, length-drop}
-use Rattle.std.proofs.Math.Option.{Option, none, some}
+use Rattle.std.proofs.Math.Option.{Option as Maybe, none, some}
 use mathlib.Core.List.{List, [], ◌∷◌, ◌++◌}
 use Rattle.std.proofs.Math.Numerals.{add-one}
 use native.Mathlib.Omega.{arith}
@@ -21,7 +21,6 @@ use Rattle.shapes.specs.Parts.{till}
 use Rattle.shapes.specs.Reads.{hole, key, formed}
 use Rattle.shapes.specs.Scan.{zeros, scan}
 use Rattle.scans.specs.declared.Taken.{Taken}
-use Rattle.scans.specs.declared.Fit.{Fit}
 use Rattle.scans.specs.Fits.{taken_at, fit_of, holes_at}
 use Rattle.forms.specs.declared.Form.{Form}
 use Rattle.forms.specs.Laid.{begins, begins_at, sound}
@@ -111,27 +110,27 @@ pub record Tried (t s : List ℕ) (e : ℕ) (first : Taken) : Type 0 where
   pub known : first ≡ taken_at 35 s first.at
 
 -- what a scan found
-fit_some : (o : Option (List ℕ)) (x : Fit) → x ≡ fit_of o → x.fits ≡ true → o ≡ some x.at
-fit_some none x e h = absurd (let z : ◌≡◌ {A = Bool} false true = sym (ap (λ y. y.fits) e) ∙ h in let q : ◌≡◌ {A = ℕ} 0 1 = cc in omega arith)
-fit_some (some v) x e h = ap some (sym (ap (λ y. y.at) e))
+fit_some : (o : Maybe (List ℕ)) (x : Option (List ℕ)) (v : List ℕ) → x ≡ fit_of o → x ≡ Some v → o ≡ some v
+fit_some none x v e h = absurd cc
+fit_some (some w) x v e h = cc
 
 -- or did not
-fit_none : (o : Option (List ℕ)) (x : Fit) → x ≡ fit_of o → x.fits ≡ false → o ≡ none
+fit_none : (o : Maybe (List ℕ)) (x : Option (List ℕ)) → x ≡ fit_of o → x ≡ None → o ≡ none
 fit_none none x e h = refl
-fit_none (some v) x e h = absurd (let z : ◌≡◌ {A = Bool} true false = sym (ap (λ y. y.fits) e) ∙ h in let q : ◌≡◌ {A = ℕ} 0 1 = cc in omega arith)
+fit_none (some w) x e h = absurd cc
 
 module _ (fs : List Shape) (t s : List ℕ) (a e r : ℕ) (w : t ≡ text (names fs)) (h : r < length fs) where
   -- the form that begins there finds room
   pub begin_room : all (λ f. sound (bytes f.0)) fs ≡ true → length (holes_at t (get_or (begins 0 (names fs)) r 0)) ≤ 5
   begin_room k = rw (from_begin fs t r w h) (row_room fs r k h)
 
-  module _ (x : Fit) (is : x ≡ fit_of (scan (drop (get_or (begins 0 (names fs)) r 0) t) s e a 0 zeros)) (p : Turn fs s a e r) where
+  module _ (x : Option (List ℕ)) (is : x ≡ fit_of (scan (drop (get_or (begins 0 (names fs)) r 0) t) s e a 0 zeros)) (p : Turn fs s a e r) where
     -- it is the line's
-    pub begin_found : x.fits ≡ true → ◌≡◌ {A = Form} (record { row = r; at = x.at }) (row_of fs s a e)
-    begin_found q = turn_found fs s a e r p h x.at (fit_some (scan (text (names (drop r fs))) s e a 0 zeros) x (rw (from_begin fs t r w h) at is) q)
+    pub begin_found : (v : List ℕ) → x ≡ Some v → ◌≡◌ {A = Form} (record { row = r; at = v }) (row_of fs s a e)
+    begin_found v q = turn_found fs s a e r p h v (fit_some (scan (text (names (drop r fs))) s e a 0 zeros) x v (rw (from_begin fs t r w h) at is) q)
 
     -- it is not
-    pub begin_more : x.fits ≡ false → Turn fs s a e (r + 1)
+    pub begin_more : x ≡ None → Turn fs s a e (r + 1)
     begin_more q = turn_more fs s a e r p h (fit_none (scan (text (names (drop r fs))) s e a 0 zeros) x (rw (from_begin fs t r w h) at is) q)
 
 -- the word at a place that is known

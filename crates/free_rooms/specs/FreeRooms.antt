@@ -7,7 +7,8 @@ use Rattle.rows.specs.Part.{part, part_length, part_get}
 use Rattle.rows.specs.Pad.{zeros_replicate}
 use Rattle.programs.specs.Sizes.{LIVE, STACK, EVENTS, VARIABLES, ROW, QUEUE}
 use Rattle.configs.specs.Encode.{free}
-use Rattle.configs.specs.Flat.{flat, room_at, room_path}
+use Rattle.configs.specs.declared.Flat.{Flat}
+use Rattle.configs.specs.Flat.{Sized, flat, room_at, room_path}
 use Rattle.zeros.specs.Zeros.{Zeros}
 
 -- WHAT IS ASKED: a room of flat lists
@@ -18,6 +19,10 @@ pub record Asked (states maps values parts pairs : List ℕ) (i : ℕ) : Type 0 
   pub parts_long : length parts ≡ 1056
   pub pairs_long : length pairs ≡ 512
   pub room : i < LIVE
+
+-- the arrays of rooms are such
+pub asked : (f : Flat) (i : ℕ) → i < 32 → Sized f → Asked f.states f.maps f.values f.parts f.pairs i
+asked f i h s = record { states_long = s.states_256; maps_long = s.maps_16384; values_long = s.values_608; parts_long = s.parts_1056; pairs_long = s.pairs_512; room = h }
 
 -- WHAT IS LOOKED AT
 -- the numbers of room i

@@ -1,6 +1,6 @@
 -- What regroup answers and writes of what is handed in, occasion by occasion: 20, 3, 21, 22 in that order; on 0 the regrouped list.
 use Rattle.std.proofs.lemmas.Bool.{not-true}
-use Rattle.std.specs.Prelude.{ℕ, suc, ◌-◌, ◌≤◌, ◌<◌, ◌≡◌, refl, Bool, true, false, not, take}
+use Rattle.std.specs.Prelude.{ℕ, suc, ◌-◌, ◌≤◌, ◌<◌, ◌≡◌, refl, Bool, true, false, not, cond, eqb, take, Result, Ok, Err}
 use Rattle.std.proofs.Common.{ap, sym, ◌∙◌, subst, arith, length-take-le}
 use mathlib.Core.List.{List, [], ◌∷◌, map}
 use Rattle.std.proofs.Math.ListN.{length}
@@ -9,6 +9,7 @@ use Rattle.lists.specs.Tells.{Tells, refuted, denied, agree}
 use Rattle.lists.specs.Ends.{but_last, take_init, map_init}
 use Rattle.answers.specs.declared.Answer.{Answer}
 use Rattle.answers.specs.declared.Answer.TheVariants.{Done, OutOfRange, NotAccepted, BufferTooShort, TookNoStep}
+use Rattle.answers.specs.Number.{number}
 use Rattle.programs.specs.Sizes.{CHOICES}
 use Rattle.choices.specs.Choices.{choice_of, choices_of}
 use Rattle.labels.specs.Labels.{rule_number}
@@ -23,7 +24,8 @@ use Rattle.tables.specs.declared.Program.{Program as Tables}
 use Rattle.tables.specs.Decode.{program_of}
 use Rattle.configs.specs.declared.Config.{Config as Held}
 use Rattle.configs.specs.Decode.{config_of}
-use Rattle.configs.specs.Flat.{Flat, held, flat_config}
+use Rattle.configs.specs.declared.Flat.{Flat}
+use Rattle.configs.specs.Flat.{held, flat_config}
 use Rattle.accepting.specs.Asked.{IsOne}
 use Rattle.admitting.specs.Admitting.{Laid}
 use Rattle.stepping.specs.Stepping.{passed}
@@ -98,9 +100,13 @@ module _ (q : Tables) (c : Held) (l : List ℕ) (room : ℕ) where
           let placed = regroup_placed (step (program_of q)) (config_of (program_of q) c) l ((rw (before_are l n some_are) at all) ∙ sym (before_many l n some_are)) in
           rw (grouped_else few fits, placed.1, before_are l n some_are) (refl, placed.2 _)
 
+-- 0 is no refusal, and any other answer is one
+abbrev pub refusal_of : Answer → Result (Unit {0}) Answer
+refusal_of a = cond (eqb (number a) 0) (Ok tt) (Err a)
+
 -- WHAT REGROUP GIVES: its answer, and what the output buffer holds then
-pub record GroupedAs (q : Tables) (c : Held) (l out : List ℕ) (r : Answer) (out' : List ℕ) : Type 0 where
-  pub answer : r ≡ (regroup_of q c l (length out)).answer
+pub record GroupedAs (q : Tables) (c : Held) (l out : List ℕ) (r : Result (Unit {0}) Answer) (out' : List ℕ) : Type 0 where
+  pub answer : r ≡ refusal_of (regroup_of q c l (length out)).answer
   pub wrote : out' ≡ fronted (numbers_of (regroup_of q c l (length out))) out
 
 -- a refusal: nothing is written, fact by fact,
@@ -108,17 +114,17 @@ nothing_said : {w : Wrote} (out : List ℕ) {a : Answer} → w ≡ wrote_nothing
 nothing_said out e = (ap (λ w. w.answer) (sym e), ap (λ w. fronted (numbers_of w) out) (sym e))
 
 -- and as what regroup gives
-nothing_written : {q : Tables} {c : Held} {l out : List ℕ} {a : Answer} → regroup_of q c l (length out) ≡ record { answer = a; list = [] } → GroupedAs q c l out a out
-nothing_written {out = out} e = let so = nothing_said out e in record { answer = so.0; wrote = so.1 }
+nothing_written : {q : Tables} {c : Held} {l out : List ℕ} {a : Answer} → regroup_of q c l (length out) ≡ record { answer = a; list = [] } → GroupedAs q c l out (refusal_of a) out
+nothing_written {out = out} e = let so = nothing_said out e in record { answer = ap refusal_of so.0; wrote = so.1 }
 
 -- 20: the program is not sound,
-pub group_unsound : (q : Tables) (c : Held) (l out : List ℕ) → sound (program_of q) ≡ false → GroupedAs q c l out NotAccepted out
-group_unsound q c l out e = let so = nothing_said out (grouped_20 q c l (length out) (agree _ _ (fit_is q c) (refuted (λ h. denied (sound_is (program_of q)) e h.0)))) in record { answer = so.0; wrote = so.1 }
+pub group_unsound : (q : Tables) (c : Held) (l out : List ℕ) → sound (program_of q) ≡ false → GroupedAs q c l out (Err NotAccepted) out
+group_unsound q c l out e = let so = nothing_said out (grouped_20 q c l (length out) (agree _ _ (fit_is q c) (refuted (λ h. denied (sound_is (program_of q)) e h.0)))) in record { answer = ap refusal_of so.0; wrote = so.1 }
 
 module _ (q : Tables) (f : Flat) (l out : List ℕ) (z : Laid q f) {b : Bool} (t : Tells b (IsOne (program_of q) f)) where
   -- or the arrays hold no configuration
-  pub group_unaccepted : not b ≡ true → GroupedAs q (held f) l out NotAccepted out
-  group_unaccepted n = let so = nothing_said out (grouped_20 q (held f) l (length out) (agree _ _ (fit_is q (held f)) (refuted (λ h. denied t (not-true b n) (record { accepted = h.1.0; zeroed = h.1.1 }))))) in record { answer = so.0; wrote = so.1 }
+  pub group_unaccepted : not b ≡ true → GroupedAs q (held f) l out (Err NotAccepted) out
+  group_unaccepted n = let so = nothing_said out (grouped_20 q (held f) l (length out) (agree _ _ (fit_is q (held f)) (refuted (λ h. denied t (not-true b n) (record { accepted = h.1.0; zeroed = h.1.1 }))))) in record { answer = ap refusal_of so.0; wrote = so.1 }
 
   -- THEY HOLD ONE
   module _ (n : not b ≡ false) where
@@ -126,16 +132,16 @@ module _ (q : Tables) (f : Flat) (l out : List ℕ) (z : Laid q f) {b : Bool} (t
     fit_held = let one = passed b t n in (z.sound, (one.accepted, one.zeroed))
 
     -- 3
-    pub group_long : CHOICES < length l → GroupedAs q (held f) l out OutOfRange out
-    group_long k = let so = nothing_said out (grouped_3 q (held f) l (length out) fit_held k) in record { answer = so.0; wrote = so.1 }
+    pub group_long : CHOICES < length l → GroupedAs q (held f) l out (Err OutOfRange) out
+    group_long k = let so = nothing_said out (grouped_3 q (held f) l (length out) fit_held k) in record { answer = ap refusal_of so.0; wrote = so.1 }
 
     -- 21
-    pub group_short : length l ≤ CHOICES → length out < length l → GroupedAs q (held f) l out BufferTooShort out
-    group_short k r = let so = nothing_said out (grouped_21 q (held f) l (length out) fit_held k r) in record { answer = so.0; wrote = so.1 }
+    pub group_short : length l ≤ CHOICES → length out < length l → GroupedAs q (held f) l out (Err BufferTooShort) out
+    group_short k r = let so = nothing_said out (grouped_21 q (held f) l (length out) fit_held k r) in record { answer = ap refusal_of so.0; wrote = so.1 }
 
     -- no choice
-    pub group_none : length l ≡ 0 → GroupedAs q (held f) l out Done out
-    group_none e = let so = nothing_said out (grouped_none q (held f) l (length out) fit_held e) in record { answer = so.0; wrote = so.1 }
+    pub group_none : length l ≡ 0 → GroupedAs q (held f) l out (Ok tt) out
+    group_none e = let so = nothing_said out (grouped_none q (held f) l (length out) fit_held e) in record { answer = ap refusal_of so.0; wrote = so.1 }
 
     -- the choices before the last were run
     module _ (any : length l ≡ 0 → ⊥) (few : length l ≤ CHOICES) (fits : length l ≤ length out) {row row' : List ℕ} {e : Ending} {g : Flat}
@@ -147,15 +153,15 @@ module _ (q : Tables) (f : Flat) (l out : List ℕ) (z : Laid q f) {b : Bool} (t
       steps_are = ap (λ (x : Ending). x.steps) left.ends
 
       -- 22
-      pub group_22 : (e.steps ≡ length l - 1 → ⊥) → GroupedAs q (held f) l out TookNoStep out
-      group_22 short = let so = nothing_said out (grouped_22 q (held f) l (length out) fit_held (length l - 1) before_last few fits (λ h. short (steps_are ∙ h))) in record { answer = so.0; wrote = so.1 }
+      pub group_22 : (e.steps ≡ length l - 1 → ⊥) → GroupedAs q (held f) l out (Err TookNoStep) out
+      group_22 short = let so = nothing_said out (grouped_22 q (held f) l (length out) fit_held (length l - 1) before_last few fits (λ h. short (steps_are ∙ h))) in record { answer = ap refusal_of so.0; wrote = so.1 }
 
       -- 0
-      pub group_0 : {out' : List ℕ} → e.steps ≡ length l - 1 → out' ≡ fronted (placed_list l row') out → GroupedAs q (held f) l out Done out'
+      pub group_0 : {out' : List ℕ} → e.steps ≡ length l - 1 → out' ≡ fronted (placed_list l row') out → GroupedAs q (held f) l out (Ok tt) out'
       group_0 h w =
           let done = grouped_0 q (held f) l (length out) fit_held (length l - 1) before_last few fits (sym steps_are ∙ h) row in
-          record { answer = sym done.0; wrote = w ∙ ap (λ (xs : List ℕ). fronted xs out) (ap (placed_list l) left.rules ∙ done.1) }
+          record { answer = ap refusal_of (sym done.0); wrote = w ∙ ap (λ (xs : List ℕ). fronted xs out) (ap (placed_list l) left.rules ∙ done.1) }
 
 -- the same of the configuration that was laid into the arrays
-pub group_from : {q : Tables} {c d : Held} {l out out' : List ℕ} {r : Answer} → GroupedAs q c l out r out' → c ≡ d → GroupedAs q d l out r out'
+pub group_from : {q : Tables} {c d : Held} {l out out' : List ℕ} {r : Result (Unit {0}) Answer} → GroupedAs q c l out r out' → c ≡ d → GroupedAs q d l out r out'
 group_from {q} {c} {d} {l} {out} {out'} {r} h e = subst (λ (x : Held). GroupedAs q x l out r out') e h

@@ -1,6 +1,6 @@
 -- What is handed in: a program in tables and a configuration in rooms. Document 01, 20: "the configuration handed in is not one, or the program breaks 3 to 9,
 -- has a void variable or a list not ascending". And the step of what is handed in.
-use Rattle.std.specs.Prelude.{ℕ, Bool, cond, ◌&&◌}
+use Rattle.std.specs.Prelude.{ℕ, Bool, cond, ◌&&◌, Ok, Err}
 use Rattle.lists.specs.Tells.{Tells, both}
 use Rattle.answers.specs.declared.Answer.{Answer}
 use Rattle.answers.specs.declared.Answer.TheVariants.{NotAccepted}
@@ -15,7 +15,6 @@ use Rattle.tables.specs.Decode.{program_of}
 use Rattle.configs.specs.declared.Config.{Config as Held}
 use Rattle.configs.specs.Decode.{config_of}
 use Rattle.configs.specs.Encode.{written, Zeroed}
-use Rattle.engine.specs.declared.Outcome.TheVariants.{Took, Refused}
 use Rattle.handed.specs.declared.Stepped.{Stepped}
 use Rattle.handed.specs.Zeros.{zeroed, zeroed_is}
 
@@ -38,11 +37,11 @@ fit_is q c = both (sound_is (program_of q)) (both (accepted_is (program_of q) (c
 
 -- refused: the configuration as it was
 abbrev pub refusing : Held → Answer → Stepped
-refusing c a = record { config = c; outcome = Refused a }
+refusing c a = record { config = c; outcome = Err a }
 
 -- what the definition's outcome is of the configuration handed in: the one after the step, written; on a refusal the one before
 abbrev pub after : Held → definition.Outcome → Stepped
-after c (took R d) = record { config = written d; outcome = Took R }
+after c (took R d) = record { config = written d; outcome = Ok R }
 after c (refused a) = refusing c a
 
 -- THE STEP of what is handed in, by the machine with the number i and the bits w: 20 first

@@ -5,6 +5,7 @@ use configs::Config;
 use engine::Outcome;
 
 // What a step leaves: the configuration after it, and the rule it took or the answer it was refused with.
+// stays: may not change: step_of, whose value this is
 #[derive(Clone, Copy)]
 pub struct Stepped {
     pub config: Config,

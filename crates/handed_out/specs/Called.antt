@@ -1,5 +1,5 @@
 -- WHAT THE CALLS LEAVE of the loader and of the start, in the code's values; and that what is written from the front of a buffer on lies in it.
-use Rattle.std.specs.Prelude.{ℕ, ◌^◌, ◌≤◌, ◌<◌, ◌≡◌, List, map, length, take, drop}
+use Rattle.std.specs.Prelude.{ℕ, Ok, ◌^◌, ◌≤◌, ◌<◌, ◌≡◌, List, map, length, take, drop}
 use Rattle.std.proofs.Common.{ap, sym, ◌∙◌, arith, length-append}
 use Rattle.std.proofs.Math.ListN.{length-map}
 use Rattle.rows.specs.Pad.{pad_length}
@@ -10,11 +10,11 @@ use Rattle.rules.specs.Step.{start_config}
 use Rattle.outputs.specs.Programs.{refusal}
 use Rattle.outputs.specs.Lengths.{refusal_length}
 use Rattle.configs.specs.Encode.{written}
-use Rattle.tabled.specs.declared.Loaded.{Loaded}
+use Rattle.tabled.specs.Tabled.{Loaded}
 use Rattle.tabled.specs.Tabled.{choice_table, load_of}
 use Rattle.handed_runs.specs.HandedRuns.{fronted}
-use Rattle.starting.specs.declared.Started.{Started}
-use Rattle.starting.specs.Started.{start_of}
+use Rattle.starting.specs.Started.{Started}
+use Rattle.starting.specs.Started.{start_of, beginning_of}
 use Rattle.starting.specs.Loaded.{loaded_starts}
 use Rattle.writing.specs.Wrote.{Room}
 use Rattle.handed_out.specs.HandedOut.{Loads, loaded_out, few, count_is, table_is, words_are}
@@ -49,6 +49,10 @@ module _ (t : List ℕ) {x : Loaded} (e : x ≡ load_of t) where
     -- IT STARTS with its start configuration
     pub starts : {s : Started} → s ≡ start_of x.program → s.config ≡ written (start_config loads.program)
     starts b = ap (λ (y : Started). y.config) (b ∙ ap (λ (y : Loaded). start_of y.program) e ∙ loaded_starts t loads.program loads.choices loads.is)
+
+    -- so that it is never refused
+    pub starts_fine : beginning_of (start_of x.program) ≡ Ok (start_of x.program).config
+    starts_fine = rw (ap (λ (y : Loaded). start_of y.program) e ∙ loaded_starts t loads.program loads.choices loads.is)
 
 -- WHAT IS WRITTEN from the front of a buffer on lies in it
 pub front_within : (f : List ℕ → List ℕ) (t old : List ℕ) {r : ℕ} {new : List ℕ} → r ≡ length (f t) → new ≡ fronted (f t) old → r ≤ length new

@@ -2,3 +2,5 @@
 pub mod HandedOut
 -- what the calls of the loader and of the start leave
 pub mod Called
+-- what a text starts with
+pub mod Starts

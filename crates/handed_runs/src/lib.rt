@@ -5,10 +5,11 @@ use answers::Answer;
 use configs::Config;
 
 // How a run ended.
+// stays: may not change: run_of, whose value this is: an answer beside a place, 0 for no choice that was refused
 #[derive(Clone, Copy)]
 pub struct Ending {
     pub answer: Answer,
-    // the place of the choice that was refused, counted from 1; 0 where none was
+    // the place of the choice that was refused, counted from 1
     pub place: usize,
     // the steps taken
     pub steps: usize,

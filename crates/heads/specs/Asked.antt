@@ -4,10 +4,13 @@ use Rattle.programs.specs.Program.{Program}
 use Rattle.soundness.specs.Sound.{Sound}
 use Rattle.machines.specs.Config.{Frame, Machine, Config}
 use Rattle.acceptance.specs.Accepted.{Accepted}
+use Rattle.tables.specs.declared.Program.{Program as Tables}
 use Rattle.tables.specs.Decode as decode
+use Rattle.index.specs.declared.Index.{Index}
 use Rattle.index.specs.Index.{Says, Places}
 use Rattle.configs.specs.Encode.{written}
-use Rattle.configs.specs.Flat.{Flat, Sized, held}
+use Rattle.configs.specs.declared.Flat.{Flat}
+use Rattle.configs.specs.Flat.{Sized, held}
 use Rattle.rooms.specs.Standing.{Lives}
 
 -- THE PROGRAM p is the lent tables'
@@ -48,3 +51,13 @@ pub record HeadAsked (exprs stmts inits types owners vartypes doers bodies kinds
   pub r : List ℕ
   pub row : room.m.loc.row ≡ s ∷ r
   pub place : get_or f.parts (k * 33 + (get_or f.counts k 0 - 1)) 0 ≡ s
+
+-- THE SAME of the program, what is looked up of it, and the configuration, each lent whole
+abbrev pub TabledBy : Tables → Index → Program → Type 0
+TabledBy q x p = Tabled q.exprs q.stmts q.inits q.event_types q.variable_of q.variable_type q.action_of q.action_body q.state_of q.state_entry q.state_exit q.defers x.says x.places p
+
+abbrev pub StepAskedOf : Tables → Index → Flat → ℕ → Type 0
+StepAskedOf q x f w = StepAsked q.exprs q.stmts q.inits q.event_types q.variable_of q.variable_type q.action_of q.action_body q.state_of q.state_entry q.state_exit q.defers x.says x.places f w
+
+abbrev pub HeadAskedOf : Tables → Index → Flat → ℕ → ℕ → Type 0
+HeadAskedOf q x f k w = HeadAsked q.exprs q.stmts q.inits q.event_types q.variable_of q.variable_type q.action_of q.action_body q.state_of q.state_entry q.state_exit q.defers x.says x.places f k w

@@ -1,5 +1,5 @@
 -- The rule of a head statement, by the statement: what its function is asked, and that what it leaves is what the definitions have.
-use Rattle.std.specs.Prelude.{ℕ, ◌+◌, ◌-◌, ◌*◌, ◌≤◌, ◌≡◌, refl, Bool, true, false, List, length, get_or}
+use Rattle.std.specs.Prelude.{ℕ, ◌+◌, ◌-◌, ◌*◌, ◌≤◌, ◌≡◌, refl, Bool, true, false, List, length, get_or, Ok}
 use Rattle.std.proofs.Common.{ap, sym, ◌∙◌, subst, true≢false, arith}
 use Rattle.lists.specs.Lists.{at}
 use Rattle.programs.specs.Program.{Program, Stmt, skip, new, delete, send, stmt_at}
@@ -13,9 +13,9 @@ use Rattle.tables.specs.Decode.{head_at, stmt_of, pairs_of}
 use Rattle.tables.specs.Tables.{stmt_head}
 use Rattle.configs.specs.declared.Room.{Room}
 use Rattle.configs.specs.Encode.{free}
-use Rattle.configs.specs.Flat.{Flat, Sized, flat, sized_next}
-use Rattle.engine.specs.declared.Outcome.{Outcome}
-use Rattle.engine.specs.declared.Outcome.TheVariants.{Took}
+use Rattle.configs.specs.declared.Flat.{Flat}
+use Rattle.configs.specs.Flat.{Sized, flat, sized_next}
+use Rattle.engine.specs.Outcome.{Outcome}
 use Rattle.engine.specs.Engine.{Performed}
 use Rattle.laying.specs.Laying.{Placed}
 use Rattle.rooms.specs.Standing.{lives_taken, lives_stands, performed_own}
@@ -139,8 +139,8 @@ module _ {exprs stmts inits types owners vartypes doers bodies homes entries exi
         (does p m.this m.loc w a.room.top.state a.room.top.map a.s a.r (stmt_of inits h)) (left_own h own_asked r g q d))
 
   -- DELETE
-  pub delete_performed : (g : Flat) → stmt_at p a.s ≡ delete → Placed f k free g → g.next ≡ f.next → Performed f head_outcome (Took DELETE) g
-  delete_performed g is d n = by_name delete is (Took DELETE) g (performed_delete p f a.room.step.c k m g a.room.lives d n)
+  pub delete_performed : (g : Flat) → stmt_at p a.s ≡ delete → Placed f k free g → g.next ≡ f.next → Performed f head_outcome (Ok DELETE) g
+  delete_performed g is d n = by_name delete is (Ok DELETE) g (performed_delete p f a.room.step.c k m g a.room.lives d n)
 
   -- SEND
   module _ (t e x : ℕ) (is : stmt_at p a.s ≡ send t e x) where

@@ -1,10 +1,12 @@
 -- Two tables that are worked out of a program before its first step: `says`, three numbers for each state and event, and `places`.
-use Rattle.std.specs.Prelude.{ℕ, ◌+◌, ◌-◌, ◌*◌, ◌≤◌, ◌≡◌, List, length, get_or, take}
+use Rattle.std.specs.Prelude.{ℕ, ◌+◌, ◌-◌, ◌*◌, ◌≤◌, ◌≡◌, ◌||◌, cond, ltb, List, length, get_or, take}
+use Rattle.std.proofs.Common.{le-ltb}
 use Rattle.std.proofs.Math.Option.{Option}
 use Rattle.lists.specs.Lists.{on_opt, at, keep, There}
 use Rattle.values.specs.declared.Ty.TheVariants.{Void as void}
 use Rattle.programs.specs.Sizes.{EVENTS, STATES}
 use Rattle.programs.specs.Program.{Program, Variable, Move, moved, is_of}
+use Rattle.index.specs.declared.Line.{Line}
 
 -- the place of what is said of state n and event e: the step's state there, the call's at + 1, the action at + 2
 abbrev pub said_at : ℕ → ℕ → ℕ
@@ -24,6 +26,18 @@ pub record Said (steps calls acts : List Move) (says : List ℕ) : Type 0 where
 -- `says` holds Step(m, n, e), Call(m, n, e) and Action(m, n, e) of the program
 abbrev pub Says : Program → List ℕ → Type 0
 Says p says = Said p.steps p.calls p.acts says
+
+-- the three numbers that stand there
+abbrev pub line_in : List ℕ → ℕ → ℕ → Line
+line_in says n e = record { step = get_or says (said_at n e) 0; call = get_or says (said_at n e + 1) 0; act = get_or says (said_at n e + 2) 0 }
+
+-- what is looked up: these, and nothing for a state or an event that has no place
+abbrev pub line_at : List ℕ → ℕ → ℕ → Line
+line_at says n e = cond (ltb STATES n || ltb EVENTS e) (record { step = 0; call = 0; act = 0 }) (line_in says n e)
+
+-- a state and an event that have one
+pub line_here : (says : List ℕ) (n e : ℕ) → n ≤ STATES → e ≤ EVENTS → line_at says n e ≡ line_in says n e
+line_here says n e h k = rw (le-ltb STATES n h, le-ltb EVENTS e k)
 
 -- the place of number x of these variables among its kind's, from 0
 abbrev pub place_in : List Variable → ℕ → ℕ

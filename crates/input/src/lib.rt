@@ -12,6 +12,7 @@ pub fn read_full<R: Read>(reader: &mut R, buf: &mut [u8]) -> io::Result<usize>
     ensures { IfOk result (λ n. IsPrefixLen n buf.new) }
 {
     let mut done = 0;
+    // stays: no plainer: a read may give fewer bytes than were asked for, so the place moves by what came
     while done < buf.len() {
         let n = reader.read(&mut buf[done..])?;
         if n == 0 {

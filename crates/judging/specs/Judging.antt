@@ -1,7 +1,8 @@
 -- The passes 4 to 9 as the code takes them: the tables as they are lent, the passes that are left from one on, and a pass told by the line that it answers.
-use Rattle.std.specs.Prelude.{ℕ, ◌≡◌, refl, Bool, true, false, List, [], ◌∷◌}
-use Rattle.std.proofs.Common.{sym, ◌∙◌, ne_eqb}
+use Rattle.std.specs.Prelude.{ℕ, zero, suc, ◌≡◌, refl, Bool, true, false, cond, List, [], ◌∷◌, eqb, Option, Some, None, Result, Ok, Err, is_ok}
+use Rattle.std.proofs.Common.{ap, sym, ◌∙◌, ne_eqb, arith}
 use Rattle.answers.specs.declared.Answer.{Answer}
+use Rattle.answers.specs.Number.{number}
 use Rattle.answers.specs.declared.Answer.TheVariants.{Done, NotThere, NotLower, Doubled, ExitLeaves, TooHigh, NoState}
 use Rattle.programs.specs.Program.{Program}
 use Rattle.soundness.specs.Asked.{Asked, refers, lower, own, single, quiet, low}
@@ -9,8 +10,9 @@ use Rattle.soundness.specs.Sound.{lines, first_fault, meets, stateful}
 use Rattle.soundness.specs.Lines.{fault_free}
 use Rattle.tables.specs.declared.Program.{Program as Tables}
 use Rattle.tables.specs.Decode.{program_of}
-use Rattle.faults.specs.Read.{Tabled, Moving}
-use Rattle.judging.specs.declared.Verdict.{Verdict}
+use Rattle.faults.specs.Read.{Holds, Moves}
+use Rattle.faults.specs.Lines.{line_of}
+use Rattle.answers.specs.declared.Refusal.{Refusal}
 use Rattle.texts.specs.Verdict.{verdict_of, verdict}
 
 -- THE TABLES, lent one by one
@@ -37,12 +39,11 @@ lent types kinds owners holds exprs stmts inits actors bodies states entries exi
 }
 
 -- every table of a program is what its arrays say
-pub tabled_program : (q : Tables) → Tabled (program_of q) q.event_types q.kinds q.variable_of q.variable_type q.exprs q.stmts q.inits q.action_of q.action_body
-    q.state_of q.state_entry q.state_exit q.defers
+pub tabled_program : (q : Tables) → Holds (program_of q) q
 tabled_program q = record { event = refl; machine = refl; variable = refl; expr = refl; stmt = refl; action = refl; state = refl }
 
 -- and so its moves
-pub moving_program : (q : Tables) → Moving (program_of q) q.moves q.steps q.calls q.acts
+pub moving_program : (q : Tables) → Moves (program_of q) q
 moving_program q = record { step = refl; call = refl; act = refl }
 
 -- THE PASSES from 8 on
@@ -65,9 +66,48 @@ after_five p = (NotThere, own p) ∷ from_six p
 abbrev pub from_five : Program → List (Answer × Asked)
 from_five p = (NotLower, lower p) ∷ after_five p
 
--- v is what these passes say of the program that the tables are, where everything that its lines name is there
-abbrev pub Says : (Program → List (Answer × Asked)) → Tables → Verdict → Type 0
-Says passes q v = (meets (program_of q) (refers (program_of q))).Holds → (v.answer, v.line) ≡ verdict_of (program_of q) (passes (program_of q))
+-- THE VERDICT AS A RESULT: `Ok` where it passes, else the answer and its line
+abbrev handed : Bool → Answer × ℕ → Result (Unit {0}) Refusal
+handed b v = cond b (Ok tt) (Err (record { answer = v.0; line = v.1 }))
+
+-- it passes at answer 0
+abbrev pub result_of : Answer × ℕ → Result (Unit {0}) Refusal
+result_of v = handed (eqb (number v.0) 0) v
+
+-- of an `Ok`
+handed_ok : (b : Bool) (v : Answer × ℕ) (u : Unit {0}) → handed b v ≡ Ok u → b ≡ true
+handed_ok true v u e = refl
+handed_ok false v u e = cc
+
+-- of an `Err`
+handed_err : (b : Bool) (v : Answer × ℕ) (f : Refusal) → handed b v ≡ Err f → (b ≡ false) × ((f.answer, f.line) ≡ v)
+handed_err true v f e = cc
+handed_err false v f e =
+    let g : Refusal = record { answer = v.0; line = v.1 } in
+    let same : g ≡ f = cc in
+    (refl, sym (ap (λ (h : Refusal). (h.answer, h.line)) same))
+
+-- LAWS FOR CALLERS: where it is `Ok` the answer is 0,
+pub result_ok : (v : Answer × ℕ) (r : Result (Unit {0}) Refusal) (u : Unit {0}) → r ≡ result_of v → r ≡ Ok u → eqb (number v.0) 0 ≡ true
+result_ok v r u e k = handed_ok (eqb (number v.0) 0) v u (sym e ∙ k)
+
+-- and where it is `Err` it is not 0, and the verdict is this one.
+pub result_err : (v : Answer × ℕ) (r : Result (Unit {0}) Refusal) (f : Refusal) → r ≡ result_of v → r ≡ Err f → (eqb (number v.0) 0 ≡ false) × ((f.answer, f.line) ≡ v)
+result_err v r f e k = handed_err (eqb (number v.0) 0) v f (sym e ∙ k)
+
+-- the test of a result
+handed_test : (b : Bool) (v : Answer × ℕ) → is_ok (handed b v) ≡ b
+handed_test true v = refl
+handed_test false v = refl
+
+-- It is `Ok` exactly where the answer is 0.
+pub result_done : (v : Answer × ℕ) → is_ok (result_of v) ≡ eqb (number v.0) 0
+result_done v = handed_test (eqb (number v.0) 0) v
+
+-- what a pass refuses: with its answer where it found a faulty line
+abbrev pub refused : Answer → Option ℕ → Result (Unit {0}) Refusal
+refused a None = Ok tt
+refused a (Some line) = Err (record { answer = a; line = line })
 
 module _ (p : Program) where
   -- A PASS, told by the line r that it answers: it finds a fault,
@@ -90,7 +130,37 @@ module _ (p : Program) where
   pub without_state : (b : Bool) → b ≡ (stateful p).test → b ≡ false → (NoState, 0) ≡ verdict_of p []
   without_state b e t = rw (← e, t)
 
+-- A PASS, told by what it refuses
+-- nothing: there is no faulty line
+refused_none : (a : Answer) (n : ℕ) (u : Unit {0}) → refused a (line_of n) ≡ Ok u → n ≡ 0
+refused_none a zero u h = refl
+refused_none a (suc n) u h = cc
+
+-- something: it is the answer and the faulty line
+refused_line : (a : Answer) (n : ℕ) (f : Refusal) (v : Answer × ℕ) → eqb (number a) 0 ≡ false → refused a (line_of n) ≡ Err f → refused a (line_of n) ≡ result_of (cond (eqb n 0) v (a, n))
+refused_line a zero f v e h = cc
+refused_line a (suc n) f v e h = rw (ne_eqb (suc n) 0 (λ z. omega arith), e)
+
+module _ (p : Program) (a : Answer) (t : Asked) (r : Option ℕ) (e : Result (Unit {0}) Refusal) (told : r ≡ line_of (first_fault 1 (lines p t))) (given : e ≡ refused a r) where
+  -- what every line is asked is met where it refuses nothing,
+  pub pass_met : (u : Unit {0}) → e ≡ Ok u → (meets p t).Holds
+  pass_met u k = all_met p t (first_fault 1 (lines p t)) refl (refused_none a (first_fault 1 (lines p t)) u (rw (← told) (sym given ∙ k)))
+
+  -- and those behind it decide;
+  pub pass_on : (ts : List (Answer × Asked)) (u : Unit {0}) (x : Result (Unit {0}) Refusal) → e ≡ Ok u → x ≡ result_of (verdict_of p ts) → x ≡ result_of (verdict_of p ((a, t) ∷ ts))
+  pass_on ts u x k h =
+      h ∙ ap result_of (no_fault p a t ts (first_fault 1 (lines p t)) (verdict_of p ts) refl (refused_none a (first_fault 1 (lines p t)) u (rw (← told) (sym given ∙ k))) refl)
+
+  -- and where it refuses this is the verdict.
+  pub pass_end : (ts : List (Answer × Asked)) (f : Refusal) → eqb (number a) 0 ≡ false → e ≡ Err f → e ≡ result_of (verdict_of p ((a, t) ∷ ts))
+  pass_end ts f n k = given ∙ rw told (refused_line a (first_fault 1 (lines p t)) f (verdict_of p ts) n (rw (← told) (sym given ∙ k)))
+
 -- all passes: 4, and those from 5 on
 pub verdict_is : (p : Program) (v : Answer × ℕ) → v ≡ verdict_of p ((NotThere, refers p) ∷ from_five p) → v ≡ verdict p
 unfolding verdict
 verdict_is p v e = e
+
+-- so as a result
+pub result_is : (p : Program) (x : Result (Unit {0}) Refusal) → x ≡ result_of (verdict_of p ((NotThere, refers p) ∷ from_five p)) → x ≡ result_of (verdict p)
+unfolding verdict
+result_is p x e = e

@@ -10,28 +10,11 @@ use rules::Rule;
 pub fn rule_number(rule: Rule) -> u8
     ensures { result ≡ rule_number rule }
 {
-    match rule {
-        Rule::ASSIGN => 1,
-        Rule::NEW => 2,
-        Rule::DELETE => 3,
-        Rule::ASSERT => 4,
-        Rule::SEQ => 5,
-        Rule::IF => 6,
-        Rule::WHILE => 7,
-        Rule::SEND => 8,
-        Rule::RAISE => 9,
-        Rule::LEAVE => 10,
-        Rule::RETURN => 11,
-        Rule::DEQUEUE => 12,
-        Rule::STEP => 13,
-        Rule::ACTION => 14,
-        Rule::CALL => 15,
-        Rule::POP1 => 16,
-        Rule::POP2 => 17,
-    }
+    rule as u8
 }
 
 // The rule of a number.
+// stays: may not change: labels::rule_of, which has a rule for every number, as a TryFrom has not
 pub fn rule_of(n: u8) -> Rule
     ensures { result ≡ rule_of n }
 {
@@ -57,17 +40,9 @@ pub fn rule_of(n: u8) -> Rule
 }
 
 // Whether a rule's number is a meeting's.
+// stays: may not change: meeting, which tells a rule by its number
 pub fn is_meeting(n: u8) -> bool
     ensures { result ≡ meeting n }
 {
-    if n == 2 {
-        return true;
-    }
-    if n == 3 {
-        return true;
-    }
-    if n == 8 {
-        return true;
-    }
-    n == 12
+    matches!(n, 2 | 3 | 8 | 12)
 }

@@ -7,17 +7,19 @@ use Rattle.rows.specs.Seek.{table, table_length, table_at}
 use Rattle.rows.specs.Part.{part, put, put_length, part_put, row_other}
 use Rattle.configs.specs.declared.Room.{Room}
 use Rattle.configs.specs.declared.Config.{Config as Held}
-use Rattle.configs.specs.Flat.{Flat, Sized, flat, room_at, held, room_path, with_next, sized_next}
+use Rattle.configs.specs.declared.Flat.{Flat}
+use Rattle.configs.specs.Flat.{Sized, flat, room_at, held, room_path, with_next, sized_next}
 
 -- row i of width w of the list `to` is `from`, in the list to'
-pub record Stored (to : List ℕ) (i w : ℕ) (from to' : List ℕ) : Type 0 where
+pub record Stored {A : Type 0} (to : List A) (i w : ℕ) (from to' : List A) : Type 0 where
   pub wide : length from ≡ w
   pub row : to' ≡ put (i * w) (part 0 w from) to
 
--- a list is its own part
-pub stored_is : (to : List ℕ) (i w : ℕ) (from to' : List ℕ) → Stored to i w from to' → to' ≡ put (i * w) from to
-unfolding part
-stored_is to i w from to' s = s.row ∙ ap (λ (r : List ℕ). put (i * w) r to) (take_all w from (omega (arith, s.wide)))
+module _ {A : Type 0} (to : List A) (i w : ℕ) (from to' : List A) where
+  -- a list is its own part
+  pub stored_is : Stored to i w from to' → to' ≡ put (i * w) from to
+  unfolding part
+  stored_is s = s.row ∙ ap (λ (r : List A). put (i * w) r to) (take_all w from (omega (arith, s.wide)))
 
 -- the room that is there for none
 abbrev pub no_room : Room

@@ -13,7 +13,7 @@ use values::Live;
 pub fn step_in(program: &Program, c: &mut Config, machine: Live, bits: u8) -> Outcome
     ensures { (result ≡ (step_of program.now c.old machine bits).outcome) × (c.new ≡ (step_of program.now c.old machine bits).config) }
 {
-    let s = stepping::step(*program, *c, machine, bits);
+    let s = stepping::step_from(program, c, machine, bits);
     *c = s.config;
     s.outcome
 }

@@ -18,7 +18,7 @@ pub fn run_in(
 ) -> Ending
     ensures { (result ≡ (run_of program.now c.old choices.now).end) × ((c.new ≡ (run_of program.now c.old choices.now).config) × (rules.new ≡ fronted (rules_of program.now c.old choices.now) rules.old)) }
 {
-    let r = running::run(*program, *c, choices, rules);
+    let r = running::run_from(program, c, choices, rules);
     *c = r.config;
     r.end
 }

@@ -7,21 +7,23 @@ use Rattle.std.proofs.lemmas.List.{length-replicate, get_or-replicate}
 use Rattle.rows.specs.Seek.{table, table_length, table_at}
 use Rattle.rows.specs.Part.{part, put, put_over, part_length}
 use Rattle.configs.specs.declared.Room.{Room}
-use Rattle.configs.specs.Flat.{Flat, Sized, room_at, room_path}
+use Rattle.configs.specs.declared.Flat.{Flat}
+use Rattle.configs.specs.Flat.{Sized, room_at, room_path}
 
--- row i of width w of the list `from`, stored over zeros
-pub record Lifted (from : List ℕ) (i w : ℕ) (r : List ℕ) : Type 0 where
-  pub row : r ≡ put 0 (part (i * w) w from) (replicate w 0)
+module _ {A : Type 0} (z : A) where
+  -- row i of width w of the list `from`, stored over places that are z
+  pub record Lifted (from : List A) (i w : ℕ) (r : List A) : Type 0 where
+    pub row : r ≡ put 0 (part (i * w) w from) (replicate w z)
 
--- is that row
-pub lifted_is : (from : List ℕ) (i w : ℕ) (r : List ℕ) → i * w + w ≤ length from → Lifted from i w r → r ≡ part (i * w) w from
-lifted_is from i w r h l =
-    let n : length (part (i * w) w from) ≡ w = part_length (i * w) w from h in
-    l.row ∙ put_over (part (i * w) w from) (replicate w 0) (omega (arith, length-replicate {A = ℕ} w 0))
+  -- is that row
+  pub lifted_is : (from : List A) (i w : ℕ) (r : List A) → i * w + w ≤ length from → Lifted from i w r → r ≡ part (i * w) w from
+  lifted_is from i w r h l =
+      let n : length (part (i * w) w from) ≡ w = part_length (i * w) w from h in
+      l.row ∙ put_over (part (i * w) w from) (replicate w z) (omega (arith, length-replicate {A = A} w z))
 
 -- ROOM i, of its numbers and its rows
-pub room_is : (f : Flat) (i : ℕ) (states maps values parts pairs : List ℕ) → Sized f → i < 32 → Lifted f.states i 8 states → Lifted f.maps i 512 maps
-    → Lifted f.values i 19 values → Lifted f.parts i 33 parts → Lifted f.pairs i 16 pairs
+pub room_is : (f : Flat) (i : ℕ) (states maps values parts pairs : List ℕ) → Sized f → i < 32 → Lifted 0 f.states i 8 states → Lifted 0 f.maps i 512 maps
+    → Lifted 0 f.values i 19 values → Lifted 0 f.parts i 33 parts → Lifted 0 f.pairs i 16 pairs
     → ◌≡◌ {A = Room}
     (record {
       this = record { 0 = get_or f.ids i 0 };
@@ -41,14 +43,14 @@ room_is f i states maps values parts pairs s h a b c d e = room_path
     refl
     refl
     refl
-    (lifted_is f.states i 8 states (omega arith) a)
-    (lifted_is f.maps i 512 maps (omega arith) b)
-    (lifted_is f.values i 19 values (omega arith) c)
+    (lifted_is 0 f.states i 8 states (omega arith) a)
+    (lifted_is 0 f.maps i 512 maps (omega arith) b)
+    (lifted_is 0 f.values i 19 values (omega arith) c)
     refl
-    (lifted_is f.parts i 33 parts (omega arith) d)
+    (lifted_is 0 f.parts i 33 parts (omega arith) d)
     refl
     refl
-    (lifted_is f.pairs i 16 pairs (omega arith) e)
+    (lifted_is 0 f.pairs i 16 pairs (omega arith) e)
 
 -- THE LOOP THAT LIFTS: the first k rooms are those of the flat lists
 pub record Raised (f : Flat) (rooms : List Room) (k : ℕ) : Type 0 where

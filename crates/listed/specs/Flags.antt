@@ -1,9 +1,14 @@
 -- The flags of a list of events: one for each event from 0 on. They are set one by one, in any order.
 use Rattle.std.specs.Prelude.{ℕ, ◌+◌, ◌≤◌, ◌<◌, min, ◌≡◌, refl, Bool, true, false, cond, ◌||◌, eqb, leb, length, get_or, set}
+use Rattle.std.specs.List.{list_all}
 use Rattle.std.proofs.Math.Path.{ap, sym}
 use Rattle.std.proofs.Common.{◌∙◌, arith, leb-true, le-leb, ne_eqb, ext_get_or}
 use mathlib.Core.List.{List, [], ◌∷◌, map}
 use Rattle.std.proofs.lemmas.Bool.{lt-leb}
+use Rattle.std.proofs.Common.{⊎_elim}
+use Rattle.std.proofs.Math.Bool.{and-false}
+use Rattle.rows.specs.Pad.{below?}
+use Rattle.texts.specs.Bytes.{split}
 use Rattle.std.proofs.Math.ListN.{length-set}
 use Rattle.lists.specs.Lists.{is_some, any, all, there}
 use Rattle.lists.specs.Facts.{and_parts, eqb_same}
@@ -15,7 +20,7 @@ use Rattle.numerals.specs.Numerals.{CAP}
 use Rattle.numerals.specs.Splits.{span, Until}
 use Rattle.listings.specs.Listings.{is_none, list_of, number_of}
 use Rattle.listings.specs.Left.{left_none}
-use Rattle.listed.specs.Says.{numbers_left, numbers_all, numbers_next}
+use Rattle.listed.specs.Says.{numbers_left, numbers_all, numbers_next, numbers_said}
 
 -- WHETHER EVERY EVENT OF A LIST CAN BE ONE OF A PROGRAM'S: the loop, at the number x that the next part says
 module _ (x : ℕ) (l : List ℕ) where
@@ -37,6 +42,26 @@ module _ (x : ℕ) (l : List ℕ) where
       let a = and_parts (there EVENTS x) (all (there EVENTS) l) h in
       let b = and_parts (leb 1 x) (leb x 64) a.0 in
       (leb-true 1 x b.0, leb-true x 64 b.1, a.1)
+
+-- the number that the code has can be one exactly when the text's can
+there_cut : (x n : ℕ) → n ≡ min x CAP → there EVENTS x ≡ there EVENTS n
+there_cut x n e = ⊎_elim
+    (λ (l : CAP < x). let z : min x CAP ≡ CAP = omega arith in rw (e, z, lt-leb x 64 (omega arith)) (and-false (leb 1 x)))
+    (λ (l : x ≤ CAP). let z : min x CAP ≡ x = omega arith in rw (e, z))
+    (below? CAP x)
+
+-- the part p, of which the code has n, and the parts behind it: p's number cannot be one
+pub defer_not : (p : List ℕ) (ps : List (List ℕ)) (n : ℕ) → n ≡ min (number_of p) CAP → there EVENTS n ≡ false → false ≡ all (there EVENTS) (map number_of (p ∷ ps))
+defer_not p ps n e h = rw (there_cut (number_of p) n e, h)
+
+-- it can
+pub defer_on : (p : List ℕ) (ps : List (List ℕ)) (n : ℕ) → n ≡ min (number_of p) CAP → there EVENTS n ≡ true → all (there EVENTS) (map number_of ps) ≡ all (there EVENTS) (map number_of (p ∷ ps))
+defer_on p ps n e h = rw (there_cut (number_of p) n e, h)
+
+-- all of the parts, as the code has their numbers
+pub parts_can : (ps : List (List ℕ)) → list_all (λ p. there EVENTS (min (number_of p) CAP)) ps ≡ all (there EVENTS) (map number_of ps)
+parts_can [] = refl
+parts_can (p ∷ ps) = rw (there_cut (number_of p) (min (number_of p) CAP) refl, parts_can ps)
 
 -- THE FLAGS
 -- those of the list l, behind place b
@@ -143,3 +168,33 @@ module _ (d xs : List ℕ) (b : ℕ) (q : Flaggable d xs b) where
     pub flagging_all : length d < a → ys ≡ put b (table (flag_of (list_of d)) 0 65) xs
     unfolding flagged
     flagging_all h = sym (ap (λ l. flagged b (map number_of l) ys) (left_none a d h)) ∙ g.rest ∙ flagged_all
+
+-- THE LOOP over the parts one by one: the parts ps are left
+pub record FlagsLeft (d xs : List ℕ) (b : ℕ) (ps : List (List ℕ)) (ys : List ℕ) : Type 0 where
+  pub rest : flagged b (map number_of ps) ys ≡ flagged b (list_of d) xs
+  pub small : all (there EVENTS) (map number_of ps) ≡ true
+  pub long : length ys ≡ 4225
+
+module _ (d xs : List ℕ) (b : ℕ) (q : Flaggable d xs b) where
+  -- before the first part
+  pub flags_first : is_none d ≡ false → FlagsLeft d xs b (split 44 d) xs
+  flags_first h = let e = numbers_said d h q.listed in record { rest = rw e; small = rw e q.small; long = q.long }
+
+  module _ (p : List ℕ) (ps : List (List ℕ)) (ys : List ℕ) (g : FlagsLeft d xs b (p ∷ ps) ys) (n : ℕ) (t : n ≡ min (number_of p) CAP) where
+    -- the event that the part p says
+    pub flags_event : (n ≡ number_of p) × (n ≤ 64)
+    flags_event = let f = defer_first (number_of p) (map number_of ps) g.small in (omega arith, omega arith)
+
+    -- its flag is set
+    pub flags_more : FlagsLeft d xs b ps (set ys (b + n) 1)
+    unfolding flagged
+    flags_more = record {
+      rest = ap (λ k. flagged b (map number_of ps) (set ys (b + k) 1)) flags_event.0 ∙ g.rest;
+      small = (defer_first (number_of p) (map number_of ps) g.small).2;
+      long = length-set ys (b + n) 1 ∙ g.long;
+    }
+
+  -- behind the last part
+  pub flags_all : (ys : List ℕ) → FlagsLeft d xs b [] ys → ys ≡ put b (table (flag_of (list_of d)) 0 65) xs
+  unfolding flagged
+  flags_all ys g = g.rest ∙ flagged_all d xs b q

@@ -1,5 +1,5 @@
 -- Pairs in the pool, stored one behind the other from place n on.
-use Prim.Native.Nat.{ℕ, suc, ◌+◌, ◌*◌, ◌≤◌, ◌<◌}
+use Prim.Native.Nat.{ℕ, suc, ◌+◌, ◌-◌, ◌*◌, ◌≤◌, ◌<◌}
 use Rattle.std.specs.Prelude.{◌≡◌, true, false, take, drop, set}
 use Rattle.std.proofs.Math.Path.{ap, sym}
 use Rattle.std.proofs.Common.{◌∙◌, add-one, take-append-drop, take-suc-set, drop-set-lt}
@@ -8,13 +8,13 @@ use native.Mathlib.Omega.{arith}
 use Rattle.std.proofs.Math.ListN.{length, length-set}
 use Rattle.lists.specs.Lists.{is_some, flat}
 use Rattle.rows.specs.Part.{put}
-use Rattle.texts.specs.Bytes.{each}
+use Rattle.texts.specs.Bytes.{split, each}
 use Rattle.texts.specs.Numbers.{pairs}
-use Rattle.numerals.specs.Splits.{span, Until}
+use Rattle.numerals.specs.Splits.{span, span_whole, Until}
 use Rattle.tabled.specs.Tabled.{word_of, pair_row}
 use Rattle.listings.specs.Listings.{is_none, pair_list, number_of, pair_in, pair_of, each_parts}
 use Rattle.listings.specs.Left.{left, left_none, left_next, Paired, paired}
-use Rattle.listed.specs.Says.{pairs_left, pairs_all, pairs_there, pairs_next}
+use Rattle.listed.specs.Says.{pairs_left, pairs_all, pairs_there, pairs_next, pairs_said, parts_there}
 
 -- the pairs l from place k on
 unfoldable pub pooled : ℕ → List (ℕ × ℕ) → List ℕ → List ℕ
@@ -118,3 +118,58 @@ module _ (d xs : List ℕ) (n : ℕ) (q : Poolable d xs n) where
         count = omega (arith, g.count, ap length z);
         stored = sym (ap (λ l. pooled (n + k) l ys) z) ∙ g.rest ∙ pooled_all n (pair_list d) xs (omega (arith, q.room, q.long));
       }
+
+-- THE LOOP over the parts one by one: k pairs are stored, and the parts ps are left
+pub record PoolLeft (d xs : List ℕ) (n : ℕ) (ps : List (List ℕ)) (k : ℕ) (ys : List ℕ) : Type 0 where
+  pub rest : pooled (n + k) (map pair_of ps) ys ≡ pooled n (pair_list d) xs
+  pub says : is_some (each pair_in ps) ≡ true
+  pub count : k + length (map pair_of ps) ≡ length (pair_list d)
+  pub long : length ys ≡ 30000
+
+module _ (d xs : List ℕ) (n : ℕ) (q : Poolable d xs n) where
+  -- before the first part
+  pub pool_first : is_none d ≡ false → PoolLeft d xs n (split 44 d) 0 xs
+  pool_first h =
+      let e = pairs_said d h q.listed in
+      let z : n + 0 ≡ n = omega arith in
+      record { rest = rw (e, z); says = parts_there d h q.listed; count = rw e (omega arith); long = q.long }
+
+  module _ (p : List ℕ) (ps : List (List ℕ)) (k : ℕ) (ys : List ℕ) (g : PoolLeft d xs n (p ∷ ps) k ys) where
+    -- there is room for the pair,
+    pub pool_room : n + k < 15000
+    pool_room = omega (arith, g.count, q.room)
+
+    module _ (m : ℕ) (w : Until 58 p 0 (length p) m) where
+      pair : Paired p 0 (length p) m (omega arith) w
+      pair = paired p 0 (length p) m (omega arith) w (rw (span_whole p) (each_parts pair_in (0, 0) p ps g.says).0)
+
+      -- its colon is there,
+      pub pool_colon : m < length p
+      pool_colon = pair.colon
+
+      -- it says the numbers on either side,
+      pub pool_pair : pair_of p ≡ (number_of (take m p), number_of (span (m + 1) (length p) p))
+      pool_pair =
+          let z : m - 0 ≡ m = omega arith in
+          ap pair_of (sym (span_whole p)) ∙ pair.says ∙ ap (λ (i : ℕ). (number_of (take i p), number_of (span (m + 1) (length p) p))) z
+
+      -- and it is stored.
+      pub pool_more : (x y : ℕ) → x ≡ word_of (number_of (take m p)) → y ≡ word_of (number_of (span (m + 1) (length p) p))
+          → PoolLeft d xs n ps (k + 1) (set (set ys ((n + k) * 2) x) ((n + k) * 2 + 1) y)
+      unfolding pooled
+      pool_more x y s t =
+          let i : n + (k + 1) ≡ n + k + 1 = omega arith in
+          record {
+            rest = rw (i, s, t) (ap (λ (c : ℕ × ℕ). pooled (n + k + 1) (map pair_of ps) (set (set ys ((n + k) * 2) (word_of c.0)) ((n + k) * 2 + 1) (word_of c.1))) (sym pool_pair) ∙ g.rest);
+            says = (each_parts pair_in (0, 0) p ps g.says).1;
+            count = omega (arith, g.count);
+            long = length-set (set ys ((n + k) * 2) x) ((n + k) * 2 + 1) y ∙ length-set ys ((n + k) * 2) x ∙ g.long;
+          }
+
+  -- behind the last part
+  pub pool_all : (k : ℕ) (ys : List ℕ) → PoolLeft d xs n [] k ys → Pooled d xs n k ys
+  unfolding pooled
+  pool_all k ys g = record {
+    count = omega (arith, g.count);
+    stored = g.rest ∙ pooled_all n (pair_list d) xs (omega (arith, q.room, q.long));
+  }

@@ -6,39 +6,22 @@ ghost use Rattle.lists.specs.Lists.{all, there};
 ghost use Rattle.rows.specs.Part.{put};
 ghost use Rattle.rows.specs.Seek.{table};
 ghost use Rattle.programs.specs.Sizes.{EVENTS};
-ghost use Rattle.numerals.specs.Splits.{span, Span};
-ghost use Rattle.tabled.specs.Tabled.{word_of};
-ghost use Rattle.listings.specs.Listings.{list_of, number_of};
+ghost use Rattle.listings.specs.Listings.{list_of};
 ghost use Rattle.listed.specs.Flags.{Flaggable, flag_of};
 ghost use Rattle.listed.specs.Pool.{Poolable, Pooled};
 
-use listings::{is_none, number_at, numbers_ok};
+use listings::{Pieces, is_none, number_in, numbers_ok};
 use numerals::until;
-use tables::Program;
+use tables::{Program, there};
+use terms::short;
 
 // Whether every event of a list can be one of a program's.
 pub fn deferrable(d: &[u8]) -> bool
     ensures { result ≡ all (there EVENTS) (list_of d.now) }
 {
-    if !numbers_ok(d) {
-        return true;
-    }
-    if is_none(d) {
-        return true;
-    }
-    let mut a: usize = 0;
-    while a <= d.len() {
-        let e = until(d, b',', a, d.len());
-        let n = number_at(d, a, e) as usize;
-        if n < 1 {
-            return false;
-        }
-        if Program::EVENTS < n {
-            return false;
-        }
-        a = e + 1;
-    }
-    true
+    !numbers_ok(d)
+        || is_none(d)
+        || Pieces::of(d).all(|part| there(Program::EVENTS, number_in(part) as usize))
 }
 
 // Sets the flags of the events of a list, in the row of flags from place b on.
@@ -53,25 +36,14 @@ pub fn set_flags(
     if is_none(d) {
         return;
     }
-    let mut a: usize = 0;
-    while a <= d.len() {
-        let e = until(d, b',', a, d.len());
-        let n = number_at(d, a, e) as usize;
+    for part in Pieces::of(d) {
+        let n = number_in(part) as usize;
         flags[b + n] = 1;
-        a = e + 1;
     }
 }
 
-// The number from place a on, up to place e, in 16 bits.
-fn word_at(d: &[u8], a: usize, e: usize) -> u16
-    requires { Span d.now a e }
-    ensures { result ≡ word_of (number_of (span a e d.now)) }
-{
-    let n = number_at(d, a, e);
-    if n < 65535 { n as u16 } else { 65535 }
-}
-
 // Stores the pairs of a list in the pool, from pair n on. How many they are.
+// stays: no heap, fixed memory: the pool, and how many pairs it has
 pub fn put_pairs(d: &[u8], inits: &mut [u16; 2 * Program::PAIRS], n: usize) -> usize
     requires { Poolable d.now inits.old n }
     ensures { Pooled d.now inits.old n result inits.new }
@@ -79,18 +51,14 @@ pub fn put_pairs(d: &[u8], inits: &mut [u16; 2 * Program::PAIRS], n: usize) -> u
     if is_none(d) {
         return 0;
     }
-    let mut a: usize = 0;
+    // stays: no plainer: how many are stored is the answer
     let mut k: usize = 0;
-    while a <= d.len() {
-        let e = until(d, b',', a, d.len());
-        let m = until(d, b':', a, e);
-        let x = word_at(d, a, m);
-        let y = word_at(d, m + 1, e);
+    for part in Pieces::of(d) {
+        let m = until(part, b':', 0, part.len());
         let at = (n + k) * 2;
-        inits[at] = x;
-        inits[at + 1] = y;
+        inits[at] = short(number_in(&part[..m]));
+        inits[at + 1] = short(number_in(&part[m + 1..]));
         k += 1;
-        a = e + 1;
     }
     k
 }

@@ -1,16 +1,19 @@
 -- The loop over the parts of an ascending list: the part from place a on, up to place e, is the last one that was looked at. One law for numbers and for
 -- pairs: f is what a part says, key the number by which it ascends.
-use Rattle.std.specs.Prelude.{ℕ, ◌+◌, ◌≤◌, ◌<◌, ◌≡◌, refl, Bool, true, false, cond, ◌&&◌, List, [], ◌∷◌, map, ltb, length}
+use Rattle.std.specs.Prelude.{ℕ, ◌+◌, ◌≤◌, ◌<◌, ◌≡◌, refl, Bool, true, false, cond, ◌&&◌, List, [], ◌∷◌, map, eqb, ltb, length}
 use Rattle.std.proofs.Common.{ap, sym, ◌∙◌, true≢false, arith}
 use Rattle.std.proofs.Math.Option.{Option, none, some}
 use Rattle.std.proofs.Math.Bool.{and-false}
+use Rattle.std.specs.Prelude.{Option as Found, Some, None, MatchOption}
+use Rattle.std.specs.List.{before_first}
 use Rattle.lists.specs.Lists.{on_opt, is_some}
 use Rattle.soundness.specs.Asked.{ascending}
-use Rattle.texts.specs.Bytes.{more, each, only}
-use Rattle.texts.specs.Numbers.{decimal, listed}
+use Rattle.texts.specs.Bytes.{split, more, each, only}
+use Rattle.texts.specs.Numbers.{decimal, listed, numbers, pairs}
 use Rattle.numerals.specs.Splits.{span, Until}
-use Rattle.listings.specs.Listings.{is_none, pair_in}
+use Rattle.listings.specs.Listings.{is_none, pair_in, number_of}
 use Rattle.listings.specs.Left.{left, left_all, left_none, left_next}
+use Rattle.listings.specs.Rising.{rising, rising_none, rising_low, rising_more, rising_all, number_key, variable_key, variable_number}
 
 -- how the elements of a list ascend
 pub record Ascent (A : Type 0) : Type 0 where
@@ -131,3 +134,64 @@ module _ {A : Type 0} (s : Ascent A) where
       -- no part is left
       pub going_all : length d ≤ e → true ≡ whole d
       going_all h = sym (good_one (span a e d) g.there) ∙ ap good (sym (left_next a e d g.inside g.ends ∙ ap (λ l. span a e d ∷ l) (left_none (e + 1) d (omega arith)))) ∙ g.rest
+
+-- THE PARTS ONE BY ONE, each with the bytes of its key, where it has one
+module _ {A : Type 0} (s : Ascent A) (f : List ℕ → Found (List ℕ)) (keyed : (p : List ℕ) → MatchOption (f p) (is_some (s.says p) ≡ false) (λ k. (is_some (s.says p) ≡ true) × (key_of s p ≡ number_of k))) where
+  -- a part and its key
+  no_key : (p : List ℕ) → f p ≡ None → is_some (s.says p) ≡ false
+  no_key p e = rw e at (keyed p)
+
+  a_key : (p k : List ℕ) → f p ≡ Some k → (is_some (s.says p) ≡ true) × (key_of s p ≡ number_of k)
+  a_key p k e = rw e at (keyed p)
+
+  -- behind a part
+  rising_behind : (p k : List ℕ) (ps : List (List ℕ)) → f p ≡ Some k → rising f (Some k) ps ≡ good s (p ∷ ps)
+  rising_behind p k [] e = rising_all f (Some k) ∙ sym (good_one s p (a_key p k e).0)
+  rising_behind p k (q ∷ qs) e = go (f q) refl (λ j h. rising_behind q j qs h)
+    where
+      decides : (j : List ℕ) → f q ≡ Some j → good s (p ∷ q ∷ qs) ≡ ltb (number_of k) (number_of j) && good s (q ∷ qs)
+      decides j h = good_more s p q qs (a_key p k e).0 ∙ ap (λ (n : ℕ). ltb n (key_of s q) && good s (q ∷ qs)) (a_key p k e).1
+          ∙ ap (λ (n : ℕ). ltb (number_of k) n && good s (q ∷ qs)) (a_key q j h).1
+
+      next : (j : List ℕ) → f q ≡ Some j → rising f (Some j) qs ≡ good s (q ∷ qs) → (b : Bool) → ltb (number_of k) (number_of j) ≡ b → rising f (Some k) (q ∷ qs) ≡ good s (p ∷ q ∷ qs)
+      next j h i true l = rising_more f (Some k) q qs j h l ∙ i ∙ sym (decides j h ∙ rw l)
+      next j h i false l = rising_low f (Some k) q qs j h l ∙ sym (decides j h ∙ rw l)
+
+      go : (o : Found (List ℕ)) → f q ≡ o → ((j : List ℕ) → f q ≡ Some j → rising f (Some j) qs ≡ good s (q ∷ qs)) → rising f (Some k) (q ∷ qs) ≡ good s (p ∷ q ∷ qs)
+      go None h i = rising_none f (Some k) q qs h ∙ sym (good_more s p q qs (a_key p k e).0 ∙ rw (good_not s q qs (no_key q h)) (and-false (ltb (key_of s p) (key_of s q))))
+      go (Some j) h i = next j h (i j h) (ltb (number_of k) (number_of j)) refl
+
+  -- from the first on
+  rising_first : (ps : List (List ℕ)) → rising f None ps ≡ good s ps
+  rising_first [] = rising_all f None ∙ rw s.none
+  rising_first (p ∷ ps) = go (f p) refl
+    where
+      go : (o : Found (List ℕ)) → f p ≡ o → rising f None (p ∷ ps) ≡ good s (p ∷ ps)
+      go None h = rising_none f None p ps h ∙ sym (good_not s p ps (no_key p h))
+      go (Some k) h = rising_more f None p ps k h refl ∙ rising_behind p k ps h
+
+  -- the whole list
+  pub rising_whole : (d : List ℕ) → is_none d ≡ false → rising f None (split 44 d) ≡ whole s d
+  rising_whole d h = rising_first (split 44 d) ∙ ap (good s) (sym (left_all d)) ∙ whole_parts s d h
+
+-- of numbers
+pub rising_numbers : (d : List ℕ) → is_none d ≡ false → rising number_key None (split 44 d) ≡ is_some (numbers d)
+rising_numbers d h = rising_whole by_number number_key keyed d h
+  where
+    keyed : (p : List ℕ) → MatchOption (number_key p) (is_some (decimal p) ≡ false) (λ k. (is_some (decimal p) ≡ true) × (key_of by_number p ≡ number_of k))
+    keyed p = go (is_some (decimal p)) refl
+      where
+        go : (b : Bool) → is_some (decimal p) ≡ b → MatchOption (cond b (Some p) None) (is_some (decimal p) ≡ false) (λ k. (is_some (decimal p) ≡ true) × (key_of by_number p ≡ number_of k))
+        go true e = (e, refl)
+        go false e = e
+
+-- of pairs
+pub rising_pairs : (d : List ℕ) → is_none d ≡ false → rising variable_key None (split 44 d) ≡ is_some (pairs d)
+rising_pairs d h = rising_whole by_variable variable_key keyed d h
+  where
+    keyed : (p : List ℕ) → MatchOption (variable_key p) (is_some (pair_in p) ≡ false) (λ k. (is_some (pair_in p) ≡ true) × (key_of by_variable p ≡ number_of k))
+    keyed p = go (is_some (pair_in p)) refl
+      where
+        go : (b : Bool) → is_some (pair_in p) ≡ b → MatchOption (cond b (Some (before_first (λ c. eqb c 58) p)) None) (is_some (pair_in p) ≡ false) (λ k. (is_some (pair_in p) ≡ true) × (key_of by_variable p ≡ number_of k))
+        go true e = (e, variable_number p e)
+        go false e = e

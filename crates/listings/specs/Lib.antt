@@ -4,7 +4,11 @@ pub mod Listings
 pub mod Order
 -- the parts that are left
 pub mod Left
--- the loop over the parts of an ascending list
+-- the parts one by one
+pub mod Pieces
+-- parts whose keys ascend
+pub mod Rising
+-- the parts of an ascending list
 pub mod Going
 -- how many pairs a list can have
 pub mod Counts

@@ -1,9 +1,13 @@
 -- Two numbers compared by their digits: of two without zeros in front the longer is the larger, and of two of one length the first digit that differs decides.
 use Rattle.std.specs.Prelude.{ℕ, zero, suc, ◌+◌, ◌-◌, ◌*◌, ◌≤◌, ◌<◌, ◌≡◌, refl, true, false, List, [], ◌∷◌, ◌++◌, eqb, leb, ltb, length, take, drop, get_or}
-use Rattle.std.proofs.Common.{ap, sym, ◌∙◌, true≢false, add-one, arith, leb-true, lt-ltb, le-ltb, length-drop, take-append-drop, drop_of_length-le, drop-cons}
+use Rattle.std.proofs.Common.{ap, sym, ◌∙◌, ⊎_elim, true≢false, add-one, arith, leb-true, lt-ltb, le-ltb, length-drop, take-append-drop, drop_of_length-le, drop-cons}
 use Rattle.std.proofs.lemmas.Bool.{eqb-false, not-true}
 use Rattle.lists.specs.Lists.{all, is_some}
-use Rattle.lists.specs.Facts.{and_parts}
+use Rattle.std.specs.Cmp.Lexicographic.{slice_cmp}
+use Rattle.std.specs.Ordering.{is_lt, ordering_then, nat_cmp}
+use borrow.Author.Tests.{ne_eqb}
+use Rattle.rows.specs.Pad.{below?}
+use Rattle.lists.specs.Facts.{and_parts, eqb_same}
 use Rattle.texts.specs.Numbers.{digit, value, plain, decimal}
 use Rattle.numerals.specs.Splits.{span, Span}
 use Rattle.listings.specs.Listings.{number_of, Written, written}
@@ -145,3 +149,35 @@ module _ (p q : List ℕ) (n : Numbers p q) where
     -- no digit is left
     pub digits_equal : length p ≤ i → ltb (number_of p) (number_of q) ≡ false
     digits_equal h = rw (a.says, b.says) (level_all p q e i l h)
+
+-- BY THE LIBRARY'S ORDER of lists: of one length the first digit that differs decides
+listed_order : (p q : List ℕ) (v : ℕ) → length p ≡ length q → all digit p ≡ true → all digit q ≡ true → is_lt (slice_cmp nat_cmp p q) ≡ ltb (value v p) (value v q)
+listed_order [] [] v e h k = sym (le-ltb v v (omega arith))
+listed_order [] (c ∷ q) v e h k = absurd (omega arith)
+listed_order (b ∷ p) [] v e h k = absurd (omega arith)
+listed_order (b ∷ p) (c ∷ q) v e h k =
+    let s = and_parts (digit b) (all digit p) h in
+    let t = and_parts (digit c) (all digit q) k in
+    let x = digit_is b s.0 in
+    let y = digit_is c t.0 in
+    ⊎_elim
+    (λ (l : b < c). rw (lt-ltb b c l) (sym (lt-ltb _ _ (value_less p q (10 * v + (b - 48)) (10 * v + (c - 48)) (omega arith) s.1 (omega arith)))))
+    (λ (l : c ≤ b). ⊎_elim
+    (λ (m : c < b). rw (le-ltb b c l, ne_eqb b c (λ z. omega arith))
+    (sym (le-ltb _ _ (let n = value_less q p (10 * v + (c - 48)) (10 * v + (b - 48)) (omega arith) t.1 (omega arith) in omega arith))))
+    (λ (m : b ≤ c). let z : c ≡ b = omega arith in rw (z, le-ltb b b (omega arith), eqb_same b) (listed_order p q (10 * v + (b - 48)) (omega arith) s.1 t.1))
+    (below? c b))
+    (below? b c)
+
+-- the lengths first
+pub compared : (p q : List ℕ) → Numbers p q → is_lt (ordering_then (nat_cmp (length p) (length q)) (slice_cmp nat_cmp p q)) ≡ ltb (number_of p) (number_of q)
+compared p q n = ⊎_elim
+    (λ (l : length p < length q). rw (lt-ltb (length p) (length q) l) (sym (first_shorter p q n l)))
+    (λ (l : length q ≤ length p). ⊎_elim
+    (λ (m : length q < length p). rw (le-ltb (length p) (length q) l, ne_eqb (length p) (length q) (λ z. omega arith)) (sym (second_shorter p q n m)))
+    (λ (m : length p ≤ length q). let z : length q ≡ length p = omega arith in
+    let x = written p n.first in
+    let y = written q n.second in
+    rw (z, le-ltb (length p) (length p) (omega arith), eqb_same (length p)) (listed_order p q 0 (sym z) x.digits y.digits ∙ rw (x.says, y.says)))
+    (below? (length q) (length p)))
+    (below? (length p) (length q))

@@ -1,55 +1,63 @@
 // Lists in a part of a text: `defer` and `init`. Numbers of any length are compared by their digits.
 #![tactic(auto)]
 
-ghost use Rattle.std.specs.Prelude.{◌≡◌, min, ltb};
+ghost use Rattle.std.specs.Prelude.{◌≡◌, List, ℕ, Option, Some, None, min, ltb, true, option_map, IfSome};
+ghost use Rattle.std.specs.Borrow.{Bor};
+ghost use Rattle.std.specs.Iterator.{YieldsFirstBy, item_count};
 ghost use Rattle.lists.specs.Lists.{is_some};
+ghost use Rattle.texts.specs.Bytes.{split};
 ghost use Rattle.texts.specs.Numbers.{decimal, numbers, pairs};
 ghost use Rattle.numerals.specs.Numerals.{CAP};
-ghost use Rattle.numerals.specs.Splits.{span, Span};
-ghost use Rattle.listings.specs.Listings.{is_none, number_of, pair_in};
-ghost use Rattle.listings.specs.Order.{Numbers, Both};
+ghost use Rattle.listings.specs.Listings.{is_none, number_of};
+ghost use Rattle.listings.specs.Order.{Numbers};
+ghost use Rattle.listings.specs.Pieces.{pieces_left};
+ghost use Rattle.listings.specs.Rising.{rising, number_key, variable_key};
 
-use numerals::{Numeral, decimal, until};
+use numerals::{decimal, until};
+
+// The parts of a list between its commas, from the first to the last: what is left of the list.
+#[derive(Drop)]
+pub struct Pieces<'a> {
+    rest: Option<&'a [u8]>,
+}
+
+impl<'a> Pieces<'a> {
+    // All parts of a list.
+    pub fn of(d: &'a [u8]) -> Pieces<'a>
+        ensures { pieces_left result ≡ split 44 d.entry.now }
+    {
+        Pieces { rest: Some(d) }
+    }
+}
+
+impl<'a> Iterator for Pieces<'a> {
+    type Item = &'a [u8];
+
+    ghost next_gives = { YieldsFirstBy (λ x. x.now) pieces_left };
+
+    ghost remaining = { item_count pieces_left };
+
+    fn next(&mut self) -> Option<&'a [u8]> {
+        let d = self.rest?;
+        let e = until(d, b',', 0, d.len());
+        self.rest = d.get(e + 1..);
+        Some(&d[..e])
+    }
+}
 
 // Whether the bytes are `none`.
 pub fn is_none(d: &[u8]) -> bool
     ensures { result ≡ is_none d.now }
 {
-    if d.len() != 4 {
-        return false;
-    }
-    if d[0] != b'n' {
-        return false;
-    }
-    if d[1] != b'o' {
-        return false;
-    }
-    if d[2] != b'n' {
-        return false;
-    }
-    d[3] == b'e'
+    d == b"none".as_slice()
 }
 
-// Whether the bytes from place a on, up to place e, are a number.
-fn is_number(d: &[u8], a: usize, e: usize) -> bool
-    requires { Span d.now a e }
-    ensures { result ≡ is_some (decimal (span a e d.now)) }
+// The number that the bytes are, cut; 0 where they are none.
+// stays: no plainer: no caller asks which it was: the part that it is asked of was tested for a number
+pub fn number_in(d: &[u8]) -> u32
+    ensures { result ≡ min (number_of d.now) CAP }
 {
-    match decimal(&d[a..e]) {
-        Numeral::Not => false,
-        Numeral::Number(_) => true,
-    }
-}
-
-// The number that they are, cut; 0 where they are none.
-pub fn number_at(d: &[u8], a: usize, e: usize) -> u32
-    requires { Span d.now a e }
-    ensures { result ≡ min (number_of (span a e d.now)) CAP }
-{
-    match decimal(&d[a..e]) {
-        Numeral::Not => 0,
-        Numeral::Number(v) => v,
-    }
+    decimal(d).unwrap_or(0)
 }
 
 // Whether the number p is below the number q: the shorter is, and of one length the one with the first smaller digit.
@@ -57,100 +65,59 @@ fn below(p: &[u8], q: &[u8]) -> bool
     requires { Numbers p.now q.now }
     ensures { result ≡ ltb (number_of p.now) (number_of q.now) }
 {
-    if p.len() < q.len() {
-        return true;
-    }
-    if q.len() < p.len() {
-        return false;
-    }
-    let mut i: usize = 0;
-    while i < p.len() {
-        if p[i] < q[i] {
-            return true;
-        }
-        if q[i] < p[i] {
-            return false;
-        }
-        i += 1;
-    }
-    false
+    p.len().cmp(&q.len()).then_with(|| p.cmp(q)).is_lt()
 }
 
-// The same of two numbers in one part of a text: from place a on, up to place b; and from place f on, up to place e.
-fn lower(d: &[u8], a: usize, b: usize, f: usize, e: usize) -> bool
-    requires { Both d.now a b f e }
-    ensures { result ≡ ltb (number_of (span a b d.now)) (number_of (span f e d.now)) }
+// The number by which a part ascends: of a number all of it. None where the part is no number.
+fn number(part: &[u8]) -> Option<&[u8]>
+    ensures { option_map (λ x. x.now) result ≡ number_key part.now }
 {
-    below(&d[a..b], &d[f..e])
+    decimal(part).is_some().then_some(part)
+}
+
+// Of a pair, as `3:7`, the number in front of its colon. None where the part is no pair.
+fn variable(part: &[u8]) -> Option<&[u8]>
+    ensures key { option_map (λ x. x.now) result ≡ variable_key part.now }
+    ensures digits { IfSome result (λ x. is_some (decimal x.now) ≡ true) }
+{
+    let m = until(part, b':', 0, part.len());
+    let x = &part[..m];
+    let y = part.get(m + 1..)?;
+    decimal(x)?;
+    decimal(y)?;
+    Some(x)
+}
+
+// Whether each part of a list has a key, which is above that of the part before.
+fn ascends<'a, F: Fn(&'a [u8]) -> Option<&'a [u8]>>(d: &'a [u8], key: F) -> bool
+    requires callable { F.IsAlwaysCallable key }
+    requires digits { (x k : Bor (List ℕ)) → F.post key x (Some k) → is_some (decimal k.now) ≡ true }
+    ensures { (keyed : List ℕ → Option (List ℕ)) → ((x : Bor (List ℕ)) (r : Option (Bor (List ℕ))) → F.post key x r → option_map (λ k. k.now) r ≡ keyed x.now)
+        → result ≡ rising keyed None (split 44 d.entry.now) }
+{
+    let mut last: Option<&[u8]> = None;
+    for part in Pieces::of(d) {
+        let Some(next) = key(part) else {
+            return false;
+        };
+        if last.is_some_and(|p| !below(p, next)) {
+            return false;
+        }
+        last = Some(next);
+    }
+    true
 }
 
 // Whether the bytes are a list of numbers that ascend.
 pub fn numbers_ok(d: &[u8]) -> bool
     ensures { result ≡ is_some (numbers d.now) }
 {
-    if is_none(d) {
-        return true;
-    }
-    let mut a: usize = 0;
-    let mut e = until(d, b',', 0, d.len());
-    if !is_number(d, a, e) {
-        return false;
-    }
-    while e < d.len() {
-        let next = e + 1;
-        let end = until(d, b',', next, d.len());
-        if !is_number(d, next, end) {
-            return false;
-        }
-        if !lower(d, a, e, next, end) {
-            return false;
-        }
-        a = next;
-        e = end;
-    }
-    true
-}
-
-// Whether the bytes from place a on, up to place e, are a pair: `3:7`.
-fn is_pair(d: &[u8], a: usize, e: usize) -> bool
-    requires { Span d.now a e }
-    ensures { result ≡ is_some (pair_in (span a e d.now)) }
-{
-    let m = until(d, b':', a, e);
-    if m == e {
-        return false;
-    }
-    if !is_number(d, a, m) {
-        return false;
-    }
-    is_number(d, m + 1, e)
+    is_none(d) || ascends(d, number)
 }
 
 // Whether the bytes are a list of pairs whose variables ascend.
 pub fn pairs_ok(d: &[u8]) -> bool
     ensures { result ≡ is_some (pairs d.now) }
 {
-    if is_none(d) {
-        return true;
-    }
-    let mut a: usize = 0;
-    let mut e = until(d, b',', 0, d.len());
-    if !is_pair(d, a, e) {
-        return false;
-    }
-    while e < d.len() {
-        let next = e + 1;
-        let end = until(d, b',', next, d.len());
-        if !is_pair(d, next, end) {
-            return false;
-        }
-        let m = until(d, b':', a, e);
-        let middle = until(d, b':', next, end);
-        if !lower(d, a, m, next, middle) {
-            return false;
-        }
-        a = next;
-        e = end;
-    }
-    true
+    is_none(d) || ascends(d, variable)
 }

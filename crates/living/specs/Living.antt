@@ -1,6 +1,7 @@
 -- The machines left, counted over the rooms: a room is free where its number is 0.
-use Rattle.std.specs.Prelude.{ℕ, ◌+◌, ◌≤◌, ◌<◌, ◌≡◌, refl, Bool, true, false, cond, List, [], ◌∷◌, map, eqb, length, get_or, drop}
+use Rattle.std.specs.Prelude.{ℕ, ◌+◌, ◌≤◌, ◌<◌, ◌≡◌, refl, Bool, true, false, not, cond, count_by, List, [], ◌∷◌, map, eqb, length, get_or, drop}
 use Rattle.std.proofs.Common.{zero-add, add-one, arith, eq-eqb, ne_eqb, drop_of_length-le, drop-cons}
+use Rattle.std.proofs.lemmas.List.Recursion.{is_count_by}
 use Rattle.lists.specs.Lists.{total}
 use Rattle.programs.specs.Program.{Program}
 use Rattle.machines.specs.Rooms.{live}
@@ -24,6 +25,18 @@ living p c = go c.rooms
     go : (rs : List Room) → total in_room rs ≡ live (record { rooms = map (room_of p) rs; next = c.next })
     go [] = refl
     go (r ∷ rs) = one r rs (eqb r.this.0 0) refl (go rs)
+
+-- a room is not free
+abbrev pub taken : Room → Bool
+taken r = not (eqb r.this.0 0)
+
+-- so many rooms are not
+pub taken_rooms : (rs : List Room) → total in_room rs ≡ count_by taken rs
+taken_rooms = is_count_by (total in_room) taken refl (λ r rs. one (eqb r.this.0 0) (total in_room rs))
+  where
+    one : (b : Bool) (n : ℕ) → cond b 0 1 + n ≡ cond (not b) (1 + n) n
+    one true n = zero-add n
+    one false n = refl
 
 -- THE LOOP THAT COUNTS: after k turns n machines are counted, and those of the rooms from place k on are left
 pub record Counting (rooms : List Room) (n k : ℕ) : Type 0 where

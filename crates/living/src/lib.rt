@@ -13,14 +13,5 @@ use tables::Program;
 pub fn live_machines(c: Config) -> usize
     ensures { (p : Definition) → result ≡ live (config_of p c) }
 {
-    let mut n: usize = 0;
-    let mut k: usize = 0;
-    while k < Program::ROOMS {
-        let room = c.rooms[k];
-        if room.this.0 != 0 {
-            n += 1;
-        }
-        k += 1;
-    }
-    n
+    c.rooms.iter().filter(|room| room.this.0 != 0).count()
 }

@@ -4,15 +4,17 @@
 
 use std::rt::{Env, Files};
 use std::{env, fs, io};
+use tables::Program;
 
 // The text that an argument names: its line. A file that cannot be opened or read is an error.
 fn load_one(rt: &(impl Files + Print), path: &str) -> io::Result<()> {
-    let mut buf = [0u8; 60001];
+    let mut buf = [0u8; Program::TEXT + 1];
     let mut file = fs::open(rt, path)?;
     let n = input::read_full(&mut file, &mut buf)?;
-    let loaded = loading::load(&buf[..n]);
-    let answer = numbers::number(loaded.answer);
-    let line = loaded.line;
+    let (answer, line) = match loading::load(&buf[..n]) {
+        Ok(_) => (0, 0),
+        Err(refusal) => (numbers::number(refusal.answer), refusal.line),
+    };
     println!(rt; "answer={answer} line={line}")
 }
 

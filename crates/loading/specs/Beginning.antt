@@ -6,19 +6,14 @@ use Rattle.rows.specs.Pad.{zeros_get}
 use Rattle.answers.specs.declared.Answer.{Answer}
 use Rattle.programs.specs.Sizes.{TEXT}
 use Rattle.texts.specs.Reading.{nothing, refused}
-use Rattle.tables.specs.declared.Program.{Program as Tables}
-use Rattle.tabled.specs.declared.Loaded.{Loaded}
-use Rattle.tabled.specs.Tabled.{tabled, no_program, loaded_as}
+use Rattle.tabled.specs.Tabled.{Loaded, tabled, no_program, loaded_as}
+use Rattle.gathering.specs.Gathered.{zeros, no_tables, no_lines}
 use Rattle.putting.specs.NoLines.{no_events, no_variable_kinds, no_variable_types, no_exprs, no_stmts, no_pairs, no_action_kinds, no_action_bodies, no_state_kinds, no_state_entries, no_state_exits, no_flags, no_moves, no_choices}
 use Rattle.taking_lines.specs.Asked.{Gathered}
 use Rattle.reading.specs.Whole.{Begun}
 
--- n zeros
-abbrev pub zeros : ℕ → List ℕ
-zeros n = replicate n 0
-
 -- they hold no line
-pub holds_nothing : Gathered nothing (zeros 65) (zeros 257) (zeros 257) (zeros 17) (zeros 3075) 0 0 0 (zeros 5125) (zeros 30000) (zeros 65) (zeros 65) (zeros 65) (zeros 65) (zeros 65) (zeros 4225) (zeros 12288) (zeros 4096) 0 0 0 0 0 0
+pub holds_nothing : Gathered nothing no_lines
 holds_nothing = record {
   front = record {
     events = record { held = sym no_events; size = omega arith };
@@ -30,8 +25,8 @@ holds_nothing = record {
       few = λ k h. omega arith;
       tables = λ z. record { of = sym no_variable_kinds; type = sym no_variable_types };
       there = λ z. tt;
-      first = λ z. absurd (z refl);
-      front = λ z. absurd (z refl);
+      first = λ i z. absurd (cc);
+      front = λ i z. absurd (cc);
     };
     expressions = record { held = sym no_exprs; size = omega arith };
   };
@@ -43,39 +38,16 @@ holds_nothing = record {
     started = refl;
     chosen = record { held = sym no_choices; many = refl; size = omega arith };
   };
+  unwritten = (refl, refl);
 }
 
 -- so reading may begin
-pub begun : (s : List ℕ) → length s ≤ TEXT
-    → Begun s (zeros 65) (zeros 257) (zeros 257) (zeros 17) (zeros 3075) 0 0 0 (zeros 5125) (zeros 30000) (zeros 65) (zeros 65) (zeros 65) (zeros 65) (zeros 65) (zeros 4225) (zeros 12288) (zeros 4096) 0 0 0 0 0 0
+pub begun : (s : List ℕ) → length s ≤ TEXT → Begun s no_lines
 begun s h = record { short = h; gathered = holds_nothing }
 
--- the tables of no program
-abbrev pub blank : Tables
-blank = record {
-  event_types = zeros 65;
-  kinds = 0;
-  variable_of = zeros 257;
-  variable_type = zeros 257;
-  exprs = zeros 3075;
-  stmts = zeros 5125;
-  inits = zeros 30000;
-  action_of = zeros 65;
-  action_body = zeros 65;
-  state_of = zeros 65;
-  state_entry = zeros 65;
-  state_exit = zeros 65;
-  defers = zeros 4225;
-  moves = zeros 12288;
-  steps = 0;
-  calls = 0;
-  acts = 0;
-  start = record { 0 = 0 };
-}
-
--- they are zeros
-blank_is : blank ≡ tabled no_program
-blank_is = λ i. record {
+-- THE TABLES OF NO PROGRAM, which are handed out on a refusal
+pub no_tables_are : no_tables ≡ tabled no_program
+no_tables_are = λ i. record {
   event_types = sym no_events i;
   kinds = 0;
   variable_of = sym no_variable_kinds i;
@@ -97,5 +69,5 @@ blank_is = λ i. record {
 }
 
 -- WHAT IS HANDED OUT ON A REFUSAL
-pub nothing_loaded : (b : Answer) (n : ℕ) → ◌≡◌ {A = Loaded} (record { answer = b; line = n; program = blank; choices = zeros 4096; count = 0 }) (loaded_as (refused b n))
-nothing_loaded b n = λ i. record { answer = b; line = n; program = blank_is i; choices = sym no_choices i; count = 0 }
+pub nothing_loaded : (b : Answer) (n : ℕ) → ◌≡◌ {A = Loaded} (record { answer = b; line = n; program = no_tables; choices = zeros 4096; count = 0 }) (loaded_as (refused b n))
+nothing_loaded b n = λ i. record { answer = b; line = n; program = no_tables_are i; choices = sym no_choices i; count = 0 }

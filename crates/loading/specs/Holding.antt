@@ -1,20 +1,30 @@
 -- THE PROGRAM THAT THE ARRAYS HOLD after the last line.
-use Rattle.std.specs.Prelude.{ℕ, ◌+◌, ◌≡◌, refl, List, [], ◌∷◌}
+use Rattle.std.specs.Prelude.{Option, None, Some, ℕ, ◌+◌, ◌≡◌, refl, List, [], ◌∷◌}
 use Rattle.texts.specs.Reading.{Tables, tables, program_of, loaded, whole, starts_of}
 use Rattle.tabled.specs.Tabled.{byte_of, tabled}
-use Rattle.judging.specs.Judging.{lent}
+use Rattle.tables.specs.declared.Kind.{Kind}
+use Rattle.tables.specs.declared.Program.{Program}
+use Rattle.gathering.specs.declared.Lines.{Lines}
 use Rattle.taking_lines.specs.Gathered.{word_of_start}
 use Rattle.taking_lines.specs.Asked.{Gathered}
 
 -- with a start the lines are whole
-pub whole_is : (a : Tables) (n : ℕ) → (word_of_start (starts_of a) ≡ 0 → ⊥)
-    → (k : ℕ) × (whole a n ≡ loaded (program_of a k).0 (program_of a k).1) × (word_of_start (starts_of a) ≡ 1 + byte_of k)
+pub whole_is : (a : Tables) (n : ℕ) → (word_of_start (starts_of a) ≡ None → ⊥)
+    → (k : ℕ) × (whole a n ≡ loaded (program_of a k).0 (program_of a k).1) × (word_of_start (starts_of a) ≡ Some (record { 0 = byte_of k }))
 whole_is (tables es ms vs xs ss acs ns ts cs ds [] hs) n z = absurd (z refl)
 whole_is (tables es ms vs xs ss acs ns ts cs ds (k ∷ ks) hs) n z = (k, refl, refl)
 
+-- the start as a number: 0 where there is none, else one more than its kind
+abbrev pub start_number : Option Kind → ℕ
+start_number None = 0
+start_number (Some k) = k.0 + 1
+
+-- THE TABLES THAT ARE HANDED OUT: with how many kinds there are, and the start
+abbrev pub finished : Lines → Kind → Program
+finished x k = record x.program { kinds = x.kinds; start = k }
+
 -- THE ARRAYS ARE THE PROGRAM'S TABLES where every variable's kind is there
-pub lent_tabled : {types owners holds rooms exprs : List ℕ} {kinds variables absent : ℕ} {stmts inits actors bodies homes entries exits flags moves choices : List ℕ} {pairs steps calls acts start count : ℕ} (a : Tables) → Gathered a types owners holds rooms exprs kinds variables absent stmts inits actors bodies homes entries exits flags moves choices pairs steps calls acts start count → absent ≡ 0 → (k s : ℕ) → s ≡ byte_of k
-    → lent types kinds owners holds exprs stmts inits actors bodies homes entries exits flags moves steps calls acts s ≡ tabled (program_of a k).0
+pub lent_tabled : {x : Lines} (a : Tables) → Gathered a x → x.absent ≡ None → (k : ℕ) (s : Kind) → s ≡ record { 0 = byte_of k } → finished x s ≡ tabled (program_of a k).0
 lent_tabled (tables es ms vs xs ss acs ns ts cs ds ks hs) g z k s e = λ i. record {
   event_types = g.front.events.held i;
   kinds = g.front.machines.held i;
@@ -33,5 +43,5 @@ lent_tabled (tables es ms vs xs ss acs ns ts cs ds ks hs) g z k s e = λ i. reco
   steps = g.back.moved.step i;
   calls = g.back.moved.call i;
   acts = g.back.moved.act i;
-  start = record { 0 = e i };
+  start = e i;
 }

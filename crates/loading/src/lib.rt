@@ -2,158 +2,63 @@
 // What it answers stands in crates/texts; the time is linear in the text, and for the passes 4 to 9 in the lines and pairs times the kinds (crates/judging).
 #![tactic(auto)]
 
-ghost use Rattle.std.specs.Prelude.{◌≡◌, ◌≤◌, length};
+ghost use Rattle.std.specs.Prelude.{◌≡◌, ◌≤◌, length, IfErr, Ok, Err};
 ghost use Rattle.programs.specs.Sizes.{TEXT};
-ghost use Rattle.texts.specs.Reading.{refused};
-ghost use Rattle.tabled.specs.Tabled.{loaded_as, load_of};
+ghost use Rattle.texts.specs.Answered.{answered};
+ghost use Rattle.reading.specs.Whole.{Begun};
+ghost use Rattle.tabled.specs.Tabled.{handed, loads, load_of};
 
-use answers::Answer;
-use reading::Read;
+use answers::{Answer, Refusal};
+use gathering::Lines;
 use tabled::Loaded;
-use tables::{Kind, Program};
+use tables::Program;
 
-// Nothing is loaded.
-fn nothing_loaded(answer: Answer, line: usize) -> Loaded
-    ensures { result ≡ loaded_as (refused answer line) }
+// What a text that is not too long holds, read and judged. The tables are handed out by the caller alone, so that no refusal has room for them.
+fn read_whole(text: &[u8], lines: &mut Lines) -> Result<(), Refusal>
+    requires short { length text.now ≤ TEXT }
+    requires begun { Begun text.now lines.old }
+    ensures refused { IfErr result (λ r. Err r ≡ loads (answered text.now)) }
+    ensures handed { result ≡ Ok (record {}) → Ok (record { program = lines.new.program; choices = lines.new.choices; count = lines.new.count }) ≡ loads (answered text.now) }
 {
-    Loaded {
-        answer: answer,
-        line: line,
-        program: Program {
-            event_types: [0; Program::EVENTS + 1],
-            kinds: 0,
-            variable_of: [0; Program::ALL_VARIABLES + 1],
-            variable_type: [0; Program::ALL_VARIABLES + 1],
-            exprs: [0; 3 * (Program::EXPRESSIONS + 1)],
-            stmts: [0; 5 * (Program::STATEMENTS + 1)],
-            inits: [0; 2 * Program::PAIRS],
-            action_of: [0; Program::ACTIONS + 1],
-            action_body: [0; Program::ACTIONS + 1],
-            state_of: [0; Program::STATES + 1],
-            state_entry: [0; Program::STATES + 1],
-            state_exit: [0; Program::STATES + 1],
-            defers: [0; (Program::STATES + 1) * (Program::EVENTS + 1)],
-            moves: [0; 3 * Program::MOVES],
-            steps: 0,
-            calls: 0,
-            acts: 0,
-            start: Kind(0),
-        },
-        choices: [0; Program::CHOICES],
-        count: 0,
+    let start = reading::read_lines(text, lines)?;
+    if let Some(i) = lines.absent {
+        let events = tables::event_count(&lines.program.event_types);
+        return Err(Refusal {
+            answer: Answer::NotThere,
+            line: events + lines.kinds + i,
+        });
     }
+    lines.program.kinds = lines.kinds as u8;
+    lines.program.start = start;
+    judging::judge(&lines.program)?;
+    Ok(())
 }
 
 // A text that is not too long.
-fn load_short(text: &[u8]) -> Loaded
+fn load_short(text: &[u8]) -> Result<Loaded, Refusal>
     requires { length text.now ≤ TEXT }
-    ensures { result ≡ load_of text.now }
+    ensures { result ≡ loads (answered text.now) }
 {
-    let mut types: [u8; Program::EVENTS + 1] = [0; Program::EVENTS + 1];
-    let mut owners: [u16; Program::ALL_VARIABLES + 1] = [0; Program::ALL_VARIABLES + 1];
-    let mut holds: [u8; Program::ALL_VARIABLES + 1] = [0; Program::ALL_VARIABLES + 1];
-    let mut rooms: [usize; Program::KINDS + 1] = [0; Program::KINDS + 1];
-    let mut exprs: [u32; 3 * (Program::EXPRESSIONS + 1)] = [0; 3 * (Program::EXPRESSIONS + 1)];
-    let mut kinds: usize = 0;
-    let mut variables: usize = 0;
-    let mut absent: usize = 0;
-    let mut stmts: [u16; 5 * (Program::STATEMENTS + 1)] = [0; 5 * (Program::STATEMENTS + 1)];
-    let mut inits: [u16; 2 * Program::PAIRS] = [0; 2 * Program::PAIRS];
-    let mut actors: [u8; Program::ACTIONS + 1] = [0; Program::ACTIONS + 1];
-    let mut bodies: [u16; Program::ACTIONS + 1] = [0; Program::ACTIONS + 1];
-    let mut homes: [u8; Program::STATES + 1] = [0; Program::STATES + 1];
-    let mut entries: [u16; Program::STATES + 1] = [0; Program::STATES + 1];
-    let mut exits: [u16; Program::STATES + 1] = [0; Program::STATES + 1];
-    let mut flags: [u8; (Program::STATES + 1) * (Program::EVENTS + 1)] = [0; (Program::STATES + 1)
-        * (Program::EVENTS + 1)];
-    let mut moves: [u8; 3 * Program::MOVES] = [0; 3 * Program::MOVES];
-    let mut choices: [u32; Program::CHOICES] = [0; Program::CHOICES];
-    let mut pairs: usize = 0;
-    let mut steps: usize = 0;
-    let mut calls: usize = 0;
-    let mut acts: usize = 0;
-    let mut start: usize = 0;
-    let mut count: usize = 0;
-    match reading::read_lines(
-        text,
-        &mut types,
-        &mut owners,
-        &mut holds,
-        &mut rooms,
-        &mut exprs,
-        &mut kinds,
-        &mut variables,
-        &mut absent,
-        &mut stmts,
-        &mut inits,
-        &mut actors,
-        &mut bodies,
-        &mut homes,
-        &mut entries,
-        &mut exits,
-        &mut flags,
-        &mut moves,
-        &mut choices,
-        &mut pairs,
-        &mut steps,
-        &mut calls,
-        &mut acts,
-        &mut start,
-        &mut count,
-    ) {
-        Read::Refused(answer, line) => {
-            return nothing_loaded(answer, line);
-        }
-        Read::Whole => {}
-    }
-    if absent != 0 {
-        let events = tables::event_count(&types);
-        return nothing_loaded(Answer::NotThere, events + kinds + absent);
-    }
-    let first = (start - 1) as u8;
-    let many = kinds as u8;
-    let verdict = judging::judge(
-        &types, many, &owners, &holds, &exprs, &stmts, &inits, &actors, &bodies, &homes, &entries,
-        &exits, &flags, &moves, steps, calls, acts, first,
-    );
-    let answer = verdict.answer;
-    if numbers::number(answer) != 0 {
-        return nothing_loaded(answer, verdict.line);
-    }
-    Loaded {
-        answer: Answer::Done,
-        line: 0,
-        program: Program {
-            event_types: types,
-            kinds: many,
-            variable_of: owners,
-            variable_type: holds,
-            exprs: exprs,
-            stmts: stmts,
-            inits: inits,
-            action_of: actors,
-            action_body: bodies,
-            state_of: homes,
-            state_entry: entries,
-            state_exit: exits,
-            defers: flags,
-            moves: moves,
-            steps: steps,
-            calls: calls,
-            acts: acts,
-            start: Kind(first),
-        },
-        choices: choices,
-        count: count,
-    }
+    let mut lines = Lines::new();
+    read_whole(text, &mut lines)?;
+    Ok(Loaded {
+        program: lines.program,
+        choices: lines.choices,
+        count: lines.count,
+    })
 }
 
 // THE LOADER, for any bytes: 1, then what the lines say.
-pub fn load(text: &[u8]) -> Loaded
-    ensures { result ≡ load_of text.now }
+pub fn load(text: &[u8]) -> Result<Loaded, Refusal>
+    ensures handed { handed result ≡ load_of text.now }
+    ensures said { result ≡ loads (answered text.now) }
 {
     if Program::TEXT < text.len() {
-        return nothing_loaded(Answer::TextTooLong, 0);
+        // stays: may not change: load_of, which has line 0 here
+        return Err(Refusal {
+            answer: Answer::TextTooLong,
+            line: 0,
+        });
     }
     load_short(text)
 }

@@ -1,9 +1,9 @@
 -- THE LOOP OF A RUN: what it is asked, what it leaves, and what holds after k of its turns.
-use Rattle.std.specs.Prelude.{ℕ, suc, ◌+◌, ◌≤◌, ◌<◌, ◌≡◌, refl, cond, List, [], ◌∷◌, ◌++◌, map, eqb, length, take, drop, get_or, set}
+use Rattle.std.specs.Prelude.{ℕ, suc, ◌+◌, ◌≤◌, ◌<◌, ◌≡◌, refl, cond, List, [], ◌∷◌, ◌++◌, map, eqb, length, take, drop, get_or, set, Ok, Err}
 use Rattle.std.proofs.Common.{ap, sym, ◌∙◌, subst, append-nil, add-one, arith, eq-eqb, ne_eqb, length-append, drop_of_length-le, drop-cons, get_or-take, length-take-le}
 use Rattle.std.proofs.lemmas.List.{map-append, length-map}
 use Rattle.std.proofs.Math.ListN.{get_or-map}
-use Rattle.std.proofs.Math.Seq.{append_snoc}
+use Rattle.std.proofs.Math.Seq.{append_snoc, take-length}
 use Rattle.answers.specs.declared.Answer.{Answer}
 use Rattle.answers.specs.declared.Answer.TheVariants.{Done}
 use Rattle.answers.specs.Number.{number}
@@ -17,11 +17,13 @@ use Rattle.rules.specs.Step as definition
 use Rattle.acceptance.specs.Accepted.{Accepted}
 use Rattle.kept.specs.Theorem.{step_keeps}
 use Rattle.configs.specs.Encode.{written}
-use Rattle.configs.specs.Flat.{Flat, Sized, held}
+use Rattle.configs.specs.declared.Flat.{Flat}
+use Rattle.configs.specs.Flat.{Sized, held}
 use Rattle.choices.specs.Choices.{choice_of, choices_of, bits_small}
 use Rattle.labels.specs.Labels.{rule_number}
-use Rattle.engine.specs.declared.Outcome.TheVariants.{Took, Refused}
 use Rattle.engine.specs.Engine.{Performed}
+use Rattle.tables.specs.declared.Program.{Program as Tables}
+use Rattle.index.specs.declared.Index.{Index}
 use Rattle.heads.specs.Asked.{Tabled, StepAsked}
 use Rattle.handed_runs.specs.declared.Ending.{Ending}
 use Rattle.handed_runs.specs.HandedRuns.{fronted}
@@ -39,6 +41,10 @@ pub record RunAsked (exprs stmts inits types owners vartypes doers bodies kinds 
   pub inside : n ≤ length l
   pub few : n ≤ CHOICES
   pub room : length row ≡ CHOICES
+
+-- the same of the program, what is looked up of it, and the configuration, each lent whole, where all the numbers l are to be run
+abbrev pub RunAskedOf : Tables → Index → Flat → List ℕ → List ℕ → Type 0
+RunAskedOf q x f l row = RunAsked q.exprs q.stmts q.inits q.event_types q.variable_of q.variable_type q.action_of q.action_body q.state_of q.state_entry q.state_exit q.defers x.says x.places f l (length l) row
 
 -- the end of a run that stopped with the answer a after n steps: place 0 where the answer is 0
 abbrev pub ended_with : Answer → ℕ → Ending
@@ -60,6 +66,13 @@ pub record RunLeft (p : Program) (c : Config) (l : List ℕ) (n : ℕ) (row : Li
   pub ends : r ≡ ended_with (run (definition.step p) c (choices_of (take n l))).answer (run (definition.step p) c (choices_of (take n l))).steps
   pub rules : row' ≡ fronted (map rule_number (ruled (definition.step p) c (choices_of (take n l)))) row
 
+-- a run of the first n of the numbers by themselves is the run of the first n of them
+pub left_first : {p : Program} {c : Config} {l : List ℕ} {n : ℕ} {row : List ℕ} {r : Ending} {g : Flat} {row' : List ℕ}
+    → RunLeft p c (take n l) (length (take n l)) row r g row' → RunLeft p c l n row r g row'
+left_first {p} {c} {l} {n} {row} {r} {g} {row'} a =
+    let same : take (length (take n l)) (take n l) ≡ take n l = take-length (take n l) in
+    record { sized = a.sized; holds = rw same at a.holds; ends = rw same at a.ends; rules = rw same at a.rules }
+
 -- AFTER k TURNS over the choices xs: the lists hold an accepted configuration, from which the rest of the run goes on, and the rules so far are written
 pub record Going (p : Program) (c : Config) (xs : List Choice) (row₀ : List ℕ) (k : ℕ) (f : Flat) (row : List ℕ) : Type 0 where
   pub config : Config
@@ -73,12 +86,12 @@ pub record Going (p : Program) (c : Config) (xs : List Choice) (row₀ : List �
   pub wrote : row ≡ fronted (map rule_number taken) row₀
 
 -- what is left where a step was taken,
-took_so : (f g : Flat) (o : definition.Outcome) (R : Rule) → Performed f o (Took R) g → (d : Config) × ((o ≡ took R d) × (Sized g × (held g ≡ written d)))
+took_so : (f g : Flat) (o : definition.Outcome) (R : Rule) → Performed f o (Ok R) g → (d : Config) × ((o ≡ took R d) × (Sized g × (held g ≡ written d)))
 took_so f g (took S d) R h = let e : S ≡ R = cc h.0 in (d, (ap (λ (T : Rule). took T d) e, h.1))
 took_so f g (refused b) R h = let z : ◌≡◌ {A = ℕ} 0 1 = cc h.0 in absurd (omega arith)
 
 -- and where none was
-refused_so : (f g : Flat) (o : definition.Outcome) (b : Answer) → Performed f o (Refused b) g → (o ≡ refused b) × (g ≡ f)
+refused_so : (f g : Flat) (o : definition.Outcome) (b : Answer) → Performed f o (Err b) g → (o ≡ refused b) × (g ≡ f)
 refused_so f g (took S d) b h = let z : ◌≡◌ {A = ℕ} 0 1 = cc h.0 in absurd (omega arith)
 refused_so f g (refused a) b h = let e : a ≡ b = cc h.0 in (ap refused e, h.1)
 
@@ -172,7 +185,7 @@ module _ {exprs stmts inits types owners vartypes doers bodies kinds entries exi
       chosen e q = λ t. definition.step a.p g.config (record { machine = e t; bits = q t })
 
       -- IT IS REFUSED: the run stops there
-      pub going_refused : {i w : ℕ} → i ≡ x.machine → w ≡ x.bits → (b : Answer) (g' : Flat) → Performed f (definition.step a.p g.config (record { machine = i; bits = w })) (Refused b) g'
+      pub going_refused : {i w : ℕ} → i ≡ x.machine → w ≡ x.bits → (b : Answer) (g' : Flat) → Performed f (definition.step a.p g.config (record { machine = i; bits = w })) (Err b) g'
           → {r : Ending} → r ≡ ended_with b k → RunLeft a.p a.c l n row₀ r g' row
       going_refused e q b g' d {r} s =
           let so = refused_so f g' _ b d in
@@ -182,7 +195,7 @@ module _ {exprs stmts inits types owners vartypes doers bodies kinds entries exi
           subst (λ (y : Flat). RunLeft a.p a.c l n row₀ r y row) (sym so.1) (record { sized = g.sized; holds = over.0; ends = over.1.0; rules = over.1.1 })
 
       -- IT TAKES A STEP by the rule R, whose number is written
-      pub going_took : {i w : ℕ} → i ≡ x.machine → w ≡ x.bits → (R : Rule) (g' : Flat) → Performed f (definition.step a.p g.config (record { machine = i; bits = w })) (Took R) g'
+      pub going_took : {i w : ℕ} → i ≡ x.machine → w ≡ x.bits → (R : Rule) (g' : Flat) → Performed f (definition.step a.p g.config (record { machine = i; bits = w })) (Ok R) g'
           → {v : ℕ} → v ≡ rule_number R → GoingOn (k + 1) g' (set row k v)
       going_took e q R g' d {v} s =
           let so = took_so f g' _ R d in

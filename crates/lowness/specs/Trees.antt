@@ -1,15 +1,17 @@
 -- The height of each expression and how many stars it has, worked out upward. More than 8 stars are too many, so that no more than 9 are counted.
 use Prim.Native.Nat.{ℕ, zero, suc, ◌+◌, ◌≤◌, ◌<◌, min}
-use Rattle.std.specs.Prelude.{◌≡◌, refl, Bool, List, eqb, length, get_or, set}
+use Rattle.std.specs.Borrow.{Bor}
+use Rattle.std.specs.Prelude.{◌≡◌, refl, Bool, List, eqb, length, get_or, set, replicate}
 use Rattle.std.proofs.Math.Path.{ap, fun_ext}
-use Rattle.std.proofs.Common.{sym, ◌∙◌, ⊎_elim, arith, length-set, get_or-set_same, get_or-set_other}
+use Rattle.std.proofs.Common.{sym, ◌∙◌, ⊎_elim, add-one, arith, length-set, get_or-set_same, get_or-set_other}
 use Rattle.std.proofs.Math.Bool.{true, false, cond}
 use Rattle.std.proofs.Math.Logic.{dite}
 use Rattle.std.proofs.Math.Decide.{ℕ_discrete}
 use Rattle.std.proofs.Math.ListN.{get_or-eq_default}
 use Rattle.lists.specs.Lists.{at, most}
 use Rattle.lists.specs.Down.{below, downward}
-use Rattle.rows.specs.Pad.{below?}
+use Rattle.std.proofs.lemmas.List.{length-replicate}
+use Rattle.rows.specs.Pad.{below?, zeros_get}
 use Rattle.programs.specs.declared.Leaf.{Leaf}
 use Rattle.programs.specs.declared.Leaf.TheVariants.{Bot as bot, Int as int_val, Bool as bool_val, Var as var, This as this, Msg as msg, Arg as arg, Star as star}
 use Rattle.programs.specs.declared.Expr.{Expr}
@@ -20,6 +22,7 @@ use Rattle.programs.specs.Trees.{Tree, tip, grow, tree, stars, tree_height, oper
 use Rattle.tables.specs.Decode.{count, expr_in, exprs_of}
 use Rattle.tables.specs.Numbered.{at_past}
 use Rattle.marks.specs.Inner.{operands_in, operands_past}
+use Rattle.marks.specs.Climbs.{Climbs, climbs_keep}
 use Rattle.marks.specs.Tall.{low_at, low_below, tall, Climbed, climbed_all}
 
 -- DOWNWARD, TWICE: where h of one work is another work, h of the answers are the other answers
@@ -158,6 +161,13 @@ module _ (x : ℕ → Expr) (i : ℕ) (l : List ℕ) (counted : Counted x i l) (
     rest = λ m h. get_or-set_other l i m n 0 (λ q. omega arith) ∙ counted.rest m (omega arith);
   }
 
+-- so after i turns, where what is worked out for a number are the stars of its expression
+pub counted_up : (x : ℕ → Expr) (said : Bor (List ℕ) → ℕ → ℕ → Type 0) → x 0 ≡ leaf bot → ((k : Bor (List ℕ)) (m n : ℕ) → said k m n → (n ≡ stars_over (low_at 0 k.now m) (x m)) × (n ≤ 9))
+    → (i m : ℕ) → m ≡ i + 1 → i ≤ 1024 → (l : List ℕ) → Climbs said (replicate 1025 0) i l → Counted x m l
+counted_up x said none told i m e fits l h = rw (e, add-one) (climbs_keep said (λ n k. Counted x (suc n) k) (replicate 1025 0)
+    (counted_first x _ (length-replicate {A = ℕ} 1025 0) (zeros_get 0 1025) none) i
+    (λ n k y b c s. let o = told k (suc n) y s in rw (← add-one) (counted_more x (suc n) k.now c (omega arith) y o.0 o.1)) l h)
+
 -- THE EXPRESSIONS' STARS are the program's
 pub counted_exprs : (exprs : List ℕ) (i : ℕ) (l : List ℕ) → Counted (λ m. at (leaf bot) (exprs_of exprs) m) i l → count EXPRS exprs < i → (p : Program) → p.exprs ≡ exprs_of exprs → ExprStars p l
 unfolding exprs_of
@@ -174,6 +184,18 @@ counted_exprs exprs i l counted h p t = record {
 -- a leaf has at most one
 pub leaf_low : (l : Leaf) → stars (tip l) ≤ 9
 leaf_low l = omega (arith, leaf_few l)
+
+-- and none where it is no star
+pub leaf_none : (l : Leaf) → (l ≡ star → ⊥) → 0 ≡ stars (tip l)
+unfolding stars
+leaf_none bot h = refl
+leaf_none (int_val z) h = refl
+leaf_none (bool_val b) h = refl
+leaf_none (var x) h = refl
+leaf_none this h = refl
+leaf_none msg h = refl
+leaf_none arg h = refl
+leaf_none star h = absurd (h refl)
 
 -- past the table
 pub few_past : (counts : List ℕ) → Few counts → (e : ℕ) → 1024 < e → 0 ≡ get_or counts e 0

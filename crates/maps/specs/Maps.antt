@@ -14,7 +14,8 @@ use Rattle.rows.specs.Fill.{filled, filled_off, filled_more}
 use Rattle.programs.specs.Sizes.{EVENTS, STATES, ACTIONS}
 use Rattle.programs.specs.Program.{Program, Step, Call, ActionOf, Trans, Exit, Deferred}
 use Rattle.tables.specs.Decode.{states_of, no_state}
-use Rattle.index.specs.Index.{Says, said_at, or_zero}
+use Rattle.index.specs.declared.Line.{Line}
+use Rattle.index.specs.Index.{Says, said_at, or_zero, line_at, line_here}
 use Rattle.machines.specs.Config.{Reply, action, deferred, nothing}
 use Rattle.machines.specs.Maps.{is_deferred, is_action, entry_at, Pop, exit_or_skip, held_back, inherits, inherits_from, call_map, inherits_length}
 use Rattle.configs.specs.Decode.{reply_of}
@@ -168,6 +169,11 @@ inherits_is p says l n e old hn he =
     own : (d : Bool) → reply_code (cond d deferred (reply_of old)) ≡ cond d 255 old
     own true = refl
     own false = code_back old
+
+-- the same by the line that is looked up
+pub inherits_line : (p : Program) (says : List ℕ) (l : Moves p says) (n e old : ℕ) (hn : n ≤ STATES) (he : e ≤ EVENTS) (line : Line) → line ≡ line_at says n e
+    → reply_code (inherits p n e (reply_of old)) ≡ cond (moves says n e) 0 (cond (eqb line.act 0) (cond (Deferred p n e) 255 old) line.act)
+inherits_line p says l n e old hn he line is = rw (is ∙ line_here says n e hn he) (inherits_is p says l n e old hn he)
 
 -- the callee's map as it is stored: an entry for each event, then zeros
 abbrev pub called : Program → ℕ → List Reply → List ℕ

@@ -1,5 +1,6 @@
 // What a state does about an event, by the tables that a program is read into and the maps of all frames, 64 places for each: the map whose places begin
 // at b has the entry of event e at b + e - 1.
+// stays: no plainer: these functions are lent the arrays that they touch, so that no contract need say that the others stay
 #![tactic(auto)]
 
 ghost use Rattle.std.specs.Prelude.{◌≡◌, List, ℕ, ◌+◌, ◌≤◌, length};
@@ -10,57 +11,52 @@ ghost use Rattle.configs.specs.Decode.{reply_of};
 ghost use Rattle.configs.specs.Encode.{reply_code};
 ghost use Rattle.maps.specs.Maps.{Moves, Tables, Asked, map_at, moves, owns, called};
 
+use index::{Says, look_up};
 use tables::{Program, defers, exit_of};
 
+// The number of the statement skip.
+const SKIP: u16 = 0;
+
+// An entry of a map is 0 for nothing, this for an event that is deferred, and else the number of an action.
+// stays: may not change: reply_code, which is how a map's entry is stored
+pub const DEFERRED: u8 = 255;
+
 // The state has a transition for the event: a step or a call.
-fn goes(says: &[u8; (Program::STATES + 1) * (Program::EVENTS + 1) * 3], n: usize, e: usize) -> bool
+fn goes(says: &Says, n: usize, e: usize) -> bool
     requires { (n ≤ 64) × (e ≤ 64) }
     ensures { result ≡ moves says.now n e }
 {
-    let at = (n * (Program::EVENTS + 1) + e) * 3;
-    if says[at] != 0 {
-        return true;
-    }
-    says[at + 1] != 0
+    let line = look_up(says, n, e);
+    line.step != 0 || line.call != 0
 }
 
 // It has a transition or an action.
-fn own(says: &[u8; (Program::STATES + 1) * (Program::EVENTS + 1) * 3], n: usize, e: usize) -> bool
+fn own(says: &Says, n: usize, e: usize) -> bool
     requires { (n ≤ 64) × (e ≤ 64) }
     ensures { result ≡ owns says.now n e }
 {
-    if goes(says, n, e) {
-        return true;
-    }
-    says[(n * (Program::EVENTS + 1) + e) * 3 + 2] != 0
+    goes(says, n, e) || look_up(says, n, e).act != 0
 }
 
 // DEQUEUE leaves the event where it is: the map or the state defers it, and the state itself has no line for it.
-pub fn held_back<'a>(
-    says: &[u8; (Program::STATES + 1) * (Program::EVENTS + 1) * 3],
-    kinds: &'a [u8; Program::STATES + 1],
-    flags: &'a [u8; (Program::STATES + 1) * (Program::EVENTS + 1)],
+pub fn held_back(
+    program: &Program,
+    says: &Says,
     maps: &[u8; Program::ROOMS * Program::STACK * Program::EVENTS],
     b: usize,
     n: usize,
     e: usize,
 ) -> bool
     requires { Asked b n e }
-    ensures { (p : Lines) (entries exits : List ℕ) → Tables p says.now kinds.now entries exits flags.now → e ≤ length p.events → result ≡ held_back p n (map_at p b maps.now) e }
+    ensures { (p : Lines) (entries exits : List ℕ) → Tables p says.now program.now.state_of entries exits program.now.defers → e ≤ length p.events → result ≡ held_back p n (map_at p b maps.now) e }
 {
     let x = maps[b + (e - 1)];
-    if own(says, n, e) {
-        return false;
-    }
-    if x == 255 {
-        return true;
-    }
-    defers(kinds, flags, n, e)
+    !own(says, n, e) && (x == DEFERRED || defers(&program.state_of, &program.defers, n, e))
 }
 
 // The event pops the state: neither the state nor its map has an answer to it.
 pub fn pops(
-    says: &[u8; (Program::STATES + 1) * (Program::EVENTS + 1) * 3],
+    says: &Says,
     maps: &[u8; Program::ROOMS * Program::STACK * Program::EVENTS],
     b: usize,
     n: usize,
@@ -70,85 +66,64 @@ pub fn pops(
     ensures { (p : Lines) → Moves p says.now → e ≤ length p.events → result ≡ Pop p n (map_at p b maps.now) e }
 {
     let x = maps[b + (e - 1)];
-    if x == 0 {
-        return !own(says, n, e);
-    }
-    if x == 255 {
-        return !own(says, n, e);
-    }
-    false
+    !own(says, n, e) && (x == 0 || x == DEFERRED)
 }
 
 // What is put before a pending raise: the state's exit where it will be popped or left by a step, or else skip.
-pub fn exit_or_skip<'a>(
-    says: &[u8; (Program::STATES + 1) * (Program::EVENTS + 1) * 3],
-    kinds: &'a [u8; Program::STATES + 1],
-    exits: &'a [u16; Program::STATES + 1],
+pub fn exit_or_skip(
+    program: &Program,
+    says: &Says,
     maps: &[u8; Program::ROOMS * Program::STACK * Program::EVENTS],
     b: usize,
     n: usize,
     e: usize,
 ) -> u16
     requires { Asked b n e }
-    ensures { (p : Lines) (entries flags : List ℕ) → Tables p says.now kinds.now entries exits.now flags → e ≤ length p.events → result ≡ exit_or_skip p n (map_at p b maps.now) e }
+    ensures { (p : Lines) (entries flags : List ℕ) → Tables p says.now program.now.state_of entries program.now.state_exit flags → e ≤ length p.events → result ≡ exit_or_skip p n (map_at p b maps.now) e }
 {
-    if says[(n * (Program::EVENTS + 1) + e) * 3] != 0 {
-        return exit_of(kinds, exits, n);
+    if look_up(says, n, e).step != 0 || pops(says, maps, b, n, e) {
+        return exit_of(&program.state_of, &program.state_exit, n);
     }
-    if pops(says, maps, b, n, e) {
-        return exit_of(kinds, exits, n);
-    }
-    0
+    SKIP
 }
 
 // Entry e of the callee's map, where the caller's is `old`.
-fn inherited<'a>(
-    says: &[u8; (Program::STATES + 1) * (Program::EVENTS + 1) * 3],
-    kinds: &'a [u8; Program::STATES + 1],
-    flags: &'a [u8; (Program::STATES + 1) * (Program::EVENTS + 1)],
-    n: usize,
-    e: usize,
-    old: u8,
-) -> u8
+fn inherited(program: &Program, says: &Says, n: usize, e: usize, old: u8) -> u8
     requires { (n ≤ 64) × (e ≤ 64) }
-    ensures { (p : Lines) (entries exits : List ℕ) → Tables p says.now kinds.now entries exits flags.now → result ≡ reply_code (inherits p n e (reply_of old)) }
+    ensures { (p : Lines) (entries exits : List ℕ) → Tables p says.now program.now.state_of entries exits program.now.defers → result ≡ reply_code (inherits p n e (reply_of old)) }
 {
     if goes(says, n, e) {
         return 0;
     }
-    let a = says[(n * (Program::EVENTS + 1) + e) * 3 + 2];
+    let a = look_up(says, n, e).act;
     if a != 0 {
         return a;
     }
-    if defers(kinds, flags, n, e) {
-        return 255;
+    if defers(&program.state_of, &program.defers, n, e) {
+        return DEFERRED;
     }
     old
 }
 
 // CALL's map: the callee's, in the 64 places behind the caller's at `from`. What lies past the last event is 0.
-pub fn call_map<'a>(
-    says: &[u8; (Program::STATES + 1) * (Program::EVENTS + 1) * 3],
-    kinds: &'a [u8; Program::STATES + 1],
-    flags: &'a [u8; (Program::STATES + 1) * (Program::EVENTS + 1)],
+pub fn call_map(
+    program: &Program,
+    says: &Says,
     maps: &mut [u8; Program::ROOMS * Program::STACK * Program::EVENTS],
     from: usize,
     n: usize,
     events: usize,
 )
     requires { (n ≤ 64) × (events ≤ 64) × (from + 128 ≤ 16384) × (length maps.old ≡ 16384) }
-    ensures { (p : Lines) (entries exits : List ℕ) → Tables p says.now kinds.now entries exits flags.now → length p.events ≡ events → maps.new ≡ put (from + 64) (called p n (map_at p from maps.old)) maps.old }
+    ensures { (p : Lines) (entries exits : List ℕ) → Tables p says.now program.now.state_of entries exits program.now.defers → length p.events ≡ events → maps.new ≡ put (from + 64) (called p n (map_at p from maps.old)) maps.old }
 {
     let to = from + Program::EVENTS;
-    let mut k: usize = 0;
-    while k < events {
-        let old = maps[from + k];
-        let x = inherited(says, kinds, flags, n, k + 1, old);
-        maps[to + k] = x;
-        k += 1;
-    }
-    while k < Program::EVENTS {
-        maps[to + k] = 0;
-        k += 1;
+    // stays: no plainer: each turn reads one place of the array and stores to another
+    for k in 0..Program::EVENTS {
+        maps[to + k] = if k < events {
+            inherited(program, says, n, k + 1, maps[from + k])
+        } else {
+            0
+        };
     }
 }

@@ -63,6 +63,25 @@ pub marked_high : (n k r : ℕ) (l : List ℕ) → 16 < k → l ≡ marked n k r
 unfolding marked
 marked_high n k r l h = rw (lt-leb k 16 h, and-false (leb 1 k))
 
+-- the same as the code tests it: a kind that is there, and a number up to n
+pub marked_there : (n k r : ℕ) {i j : ℕ} (l : List ℕ) → i ≡ k → j ≡ r → there KINDS i ≡ true → j ≤ n → set l (i * 1025 + j) 1 ≡ marked n k r l
+unfolding marked
+marked_there n k r {j = j} l e f t h = rw (← e, ← f, t, le-leb j n h)
+
+-- a number past n
+pub marked_behind : (n k r : ℕ) {j : ℕ} (l : List ℕ) → j ≡ r → n < j → l ≡ marked n k r l
+unfolding marked
+marked_behind n k r l f h = rw (lt-leb r n (omega arith)) (go (there KINDS k))
+  where
+    go : (b : Bool) → l ≡ cond b l l
+    go true = refl
+    go false = refl
+
+-- no kind
+pub marked_absent : (n k r : ℕ) {i : ℕ} (l : List ℕ) → i ≡ k → there KINDS i ≡ false → l ≡ marked n k r l
+unfolding marked
+marked_absent n k r l e t = rw (← e, t)
+
 -- what a mark leaves, by its cases
 by_case : (n k r : ℕ) (l : List ℕ) (P : List ℕ → Type 0) → (1 ≤ k → k ≤ 16 → r ≤ n → P (set l (k * 1025 + r) 1)) → (n < r → P l) → ((1 ≤ k → 16 < k) → P l) → P (marked n k r l)
 by_case n k r l P f g h = ⊎_elim

@@ -4,6 +4,8 @@ pub mod Sheet
 pub mod Marks
 -- the numbers in a statement or an expression
 pub mod Inner
+-- tables, worked out upward
+pub mod Climbs
 -- heights, worked out upward
 pub mod Tall
 -- marks, passed on downward

@@ -27,10 +27,14 @@ pub record Peopled (stmts kinds bodies state_kinds entries exits : List ℕ) (p 
   pub same_actions : p.actions ≡ actions_of kinds bodies
   pub same_states : p.states ≡ states_of state_kinds entries exits flags
 
+-- so, by the code's tables
+abbrev pub Peoples : Tables → Program → Type 0
+Peoples q p = Peopled q.stmts q.action_of q.action_body q.state_of q.state_entry q.state_exit p
+
 -- LAWS FOR CALLERS: so is the program that the tables are
 pub stated_program : (q : Tables) → Stated q.stmts (program_of q)
 stated_program q = record { inits = q.inits; same = refl }
 
 -- with its actions and states
-pub peopled_program : (q : Tables) → Peopled q.stmts q.action_of q.action_body q.state_of q.state_entry q.state_exit (program_of q)
+pub peopled_program : (q : Tables) → Peoples q (program_of q)
 peopled_program q = record { stated = stated_program q; flags = q.defers; same_actions = refl; same_states = refl }

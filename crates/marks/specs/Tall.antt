@@ -1,9 +1,12 @@
 -- Heights worked out upward: what each number holds is lower, so when a number's turn comes the heights of all lower ones stand in the table.
 use Prim.Native.Nat.{ℕ, zero, suc, ◌+◌, ◌≤◌, ◌<◌, max}
-use Rattle.std.specs.Prelude.{◌≡◌, cond, ltb, length, get_or, set}
+use Rattle.std.specs.Prelude.{◌≡◌, cond, ltb, length, get_or, set, take, replicate}
 use Rattle.std.proofs.Math.Path.{refl, ap, fun_ext}
-use Rattle.std.proofs.Common.{sym, ◌∙◌, ⊎_elim, arith, lt-ltb, le-ltb, ne_eqb, length-set, get_or-set_same, get_or-set_other}
+use Rattle.std.proofs.Common.{sym, ◌∙◌, ⊎_elim, add-one, arith, lt-ltb, le-ltb, ne_eqb, length-set, get_or-set_same, get_or-set_other}
 use mathlib.Core.List.{List, [], ◌∷◌}
+use Rattle.std.proofs.lemmas.List.{get_or-take, get_or_default, length-take, length-replicate, get_or-replicate}
+use Rattle.std.specs.Borrow.{Bor}
+use Rattle.std.proofs.Math.ListN.{get_or-eq_default}
 use Rattle.std.proofs.Math.Logic.{dite}
 use Rattle.std.proofs.Math.Decide.{ℕ_discrete}
 use Rattle.lists.specs.Lists.{most}
@@ -17,6 +20,7 @@ use Rattle.marks.specs.declared.Inner.{Inner}
 use Rattle.marks.specs.declared.Inner.TheVariants.{Nothing, One, Two}
 use Rattle.marks.specs.Marks.{Heights, Stated}
 use Rattle.marks.specs.Inner.{listed, parts_in, parts_are, parts_past}
+use Rattle.marks.specs.Climbs.{Climbs, climbs_keep}
 
 -- ANSWERS FOR LOWER NUMBERS
 module _ {A : Type 0} (other : A) (work : (ℕ → A) → ℕ → A) where
@@ -29,6 +33,13 @@ module _ {A : Type 0} (other : A) (work : (ℕ → A) → ℕ → A) where
 -- what stands in a table for number t, where t is lower than n; `other` where it is not
 abbrev pub low_at : ℕ → List ℕ → ℕ → ℕ → ℕ
 low_at other l n t = cond (ltb t n) (get_or l t 0) other
+
+-- it stands in the part of the table that is lower than n
+pub low_part : (other : ℕ) (l : List ℕ) (n t : ℕ) → n ≤ length l → get_or (take n l) t other ≡ low_at other l n t
+low_part other l n t fits = ⊎_elim
+    (λ (h : t < n). rw (lt-ltb t n h) (get_or-take n l t other h ∙ get_or_default l t other 0 (omega arith)))
+    (λ (h : n ≤ t). rw (le-ltb t n h) (get_or-eq_default (take n l) other (omega (arith, length-take n l))))
+    (below? t n)
 
 module _ (other : ℕ) (work : (ℕ → ℕ) → ℕ → ℕ) (l : List ℕ) (n : ℕ) (done : (m : ℕ) → m < n → get_or l m 0 ≡ downward other work m) where
   -- a table with the answers of all lower numbers gives what `below` gives
@@ -118,6 +129,13 @@ module _ (kids : ℕ → List ℕ) (i : ℕ) (l : List ℕ) (climbed : Climbed k
         (λ q. rw (q, get_or-set_same l i x 0 (omega (arith, climbed.size))) b)
         (λ q. rw (get_or-set_other l i m x 0 q) (omega (arith, climbed.low m (omega arith))));
   }
+
+-- so after i turns, where what is worked out for a number is the height over what it holds
+pub climbed_up : (kids : ℕ → List ℕ) (said : Bor (List ℕ) → ℕ → ℕ → Type 0) → kids 0 ≡ [] → ((k : Bor (List ℕ)) (m x : ℕ) → said k m x → Over k.now m (kids m) x) → (i m : ℕ) → m ≡ i + 1 → i ≤ 1024
+    → (l : List ℕ) → Climbs said (replicate 1025 1) i l → Climbed kids m l
+climbed_up kids said none told i m e fits l h = rw (e, add-one) (climbs_keep said (λ n k. Climbed kids (suc n) k) (replicate 1025 1)
+    (climbed_first kids _ (length-replicate {A = ℕ} 1025 1) (λ j b. get_or-replicate {A = ℕ} 1025 j 1 0 (omega arith)) none) i
+    (λ n k x b c s. let o = told k (suc n) x s in rw (← add-one) (climbed_more kids (suc n) k.now c (omega arith) (omega arith) x o.0 o.1)) l h)
 
 -- after the last, what lies behind holds nothing
 pub climbed_all : (kids : ℕ → List ℕ) (n i : ℕ) (l : List ℕ) → Climbed kids i l → n < i → ((m : ℕ) → n < m → kids m ≡ []) → (m : ℕ) → m ≤ 1024 → get_or l m 0 ≡ tall kids m

@@ -1,18 +1,20 @@
 // ANSWER 4, of variables, expressions and statements: everything that such a line names is there. One function for a line of each table, and one for
 // each table, which answers its first faulty row.
+// stays: no plainer: a search for each table, since each asks of a row what such a row names; what they share is `first_bad`
 #![tactic(auto)]
 
 ghost use Rattle.std.specs.Prelude.{◌≡◌, ◌&&◌, List, ℕ, ◌≤◌, length};
 ghost use Rattle.lists.specs.Lists.{there};
 ghost use Rattle.lists.specs.Check.{each};
 ghost use Rattle.programs.specs.Program.{Program as Lines, new};
-ghost use Rattle.soundness.specs.Asked.{is_id, leaf_refers, expr_refers, stmt_refers, refers};
+ghost use Rattle.soundness.specs.Asked.{leaf_refers, expr_refers, stmt_refers, refers};
 ghost use Rattle.tables.specs.Decode.{variables_of, exprs_of, pairs_of, stmt_of, stmts_of};
 ghost use Rattle.faults.specs.Faults.{row_fault};
 ghost use Rattle.faults.specs.Read.{Counted};
+ghost use Rattle.faults.specs.Lines.{line_of, number_of};
 ghost use Rattle.naming.specs.Naming.{pair_refers};
 
-use faults::Counts;
+use faults::{Counts, first_bad};
 use programs::{Expr, Leaf};
 use tables::{
     Head, Program, expr_count, rows_from, stmt_count, there, variable_count, variable_kind,
@@ -21,27 +23,15 @@ use tables::{
 use terms::{expr_at, stmt_at};
 use values::Ty;
 
-// Both.
-pub fn both(a: bool, b: bool) -> bool
-    ensures { result ≡ a && b }
-{
-    if a { b } else { false }
-}
-
 // The first faulty row of the variables: each is of a kind that is there. Linear in the variables.
-pub fn variables_refer(kinds: u8, owners: &[u16; Program::ALL_VARIABLES + 1]) -> usize
-    ensures { (result ≤ 256) × ((p : Lines) (types : List ℕ) → p.machines ≡ kinds → p.variables ≡ variables_of owners.now types → result ≡ row_fault (refers p).variable p.variables) }
+pub fn variables_refer(program: &Program) -> Option<usize>
+    ensures row { (p : Lines) (types : List ℕ) → p.machines ≡ program.now.kinds → p.variables ≡ variables_of program.now.variable_of types → result ≡ line_of (row_fault (refers p).variable p.variables) }
+    ensures bound { number_of result ≤ 256 }
 {
-    let n = variable_count(owners);
-    let mut i = 0;
-    while i < n {
-        let k = variable_kind(owners, i + 1);
-        if !there(kinds as usize, k.0 as usize) {
-            return i + 1;
-        }
-        i += 1;
-    }
-    0
+    first_bad(variable_count(&program.variable_of), |i| {
+        let k = variable_kind(&program.variable_of, i);
+        there(usize::from(program.kinds), usize::from(k.0))
+    })
 }
 
 // What a leaf names is there.
@@ -49,14 +39,14 @@ fn leaf_refers(l: Leaf, variables: usize) -> bool
     ensures { (p : Lines) → length p.variables ≡ variables → result ≡ (leaf_refers p l).test }
 {
     match l {
-        Leaf::Var(x) => there(variables, x as usize),
-        Leaf::Bot => true,
-        Leaf::Int(_) => true,
-        Leaf::Bool(_) => true,
-        Leaf::This => true,
-        Leaf::Msg => true,
-        Leaf::Arg => true,
-        Leaf::Star => true,
+        Leaf::Var(x) => there(variables, usize::from(x)),
+        Leaf::Bot
+        | Leaf::Int(_)
+        | Leaf::Bool(_)
+        | Leaf::This
+        | Leaf::Msg
+        | Leaf::Arg
+        | Leaf::Star => true,
     }
 }
 
@@ -66,148 +56,85 @@ fn expr_refers(x: Expr, variables: usize, exprs: usize) -> bool
 {
     match x {
         Expr::Leaf(l) => leaf_refers(l, variables),
-        Expr::Unary(_, a) => there(exprs, a as usize),
-        Expr::Binary(_, a, b) => both(there(exprs, a as usize), there(exprs, b as usize)),
+        Expr::Unary(_, a) => there(exprs, usize::from(a)),
+        Expr::Binary(_, a, b) => there(exprs, usize::from(a)) && there(exprs, usize::from(b)),
     }
 }
 
-// The first faulty row of the expressions. Linear in the expressions.
-pub fn exprs_refer(exprs: &[u32; 3 * (Program::EXPRESSIONS + 1)], variables: usize) -> usize
-    ensures { (result ≤ 1024) × ((p : Lines) → length p.variables ≡ variables → p.exprs ≡ exprs_of exprs.now → result ≡ row_fault (refers p).expr p.exprs) }
+// The first faulty row of the expressions, where there are as many variables. Linear in the expressions.
+pub fn exprs_refer(program: &Program, variables: usize) -> Option<usize>
+    ensures row { (p : Lines) → length p.variables ≡ variables → p.exprs ≡ exprs_of program.now.exprs → result ≡ line_of (row_fault (refers p).expr p.exprs) }
+    ensures bound { number_of result ≤ 1024 }
 {
-    let n = expr_count(exprs);
-    let mut i = 0;
-    while i < n {
-        let x = expr_at(exprs, i + 1);
-        if !expr_refers(x, variables, n) {
-            return i + 1;
-        }
-        i += 1;
-    }
-    0
-}
-
-// A variable of this type can hold a machine.
-fn is_id(t: Ty) -> bool
-    ensures { result ≡ is_id t }
-{
-    match t {
-        Ty::Void => false,
-        Ty::Bool => false,
-        Ty::Int => false,
-        Ty::Event => false,
-        Ty::Id => true,
-    }
+    let n = expr_count(&program.exprs);
+    first_bad(n, |i| expr_refers(expr_at(&program.exprs, i), variables, n))
 }
 
 // What a pair of an init list names is there.
-fn pair_refers(x: u16, e: u16, variables: usize, exprs: usize) -> bool
-    ensures { result ≡ there variables x && there exprs e }
+fn pair_refers(x: u16, e: u16, c: Counts) -> bool
+    ensures { result ≡ there c.variables x && there c.exprs e }
 {
-    both(there(variables, x as usize), there(exprs, e as usize))
+    there(c.variables, usize::from(x)) && there(c.exprs, usize::from(e))
 }
 
 // What the n pairs of an init list from place i on name is there. Linear in the pairs.
-fn pairs_refer(
-    inits: &[u16; 2 * Program::PAIRS],
-    i: usize,
-    n: usize,
-    variables: usize,
-    exprs: usize,
-) -> bool
-    ensures { (p : Lines) → length p.variables ≡ variables → length p.exprs ≡ exprs → result ≡ (each (pair_refers p) (pairs_of inits.now i n)).test }
+// stays: no plainer: i and n are the two numbers that a `new` holds; a slice would have to be cut by each caller, at the pool's end too
+fn pairs_refer(program: &Program, i: usize, n: usize, c: Counts) -> bool
+    ensures { (p : Lines) → length p.variables ≡ c.variables → length p.exprs ≡ c.exprs → result ≡ (each (pair_refers p) (pairs_of program.now.inits i n)).test }
 {
-    let m = rows_from(Program::PAIRS, i, n);
-    let mut j = 0;
-    while j < m {
-        let x = inits[(i + j) * 2];
-        let e = inits[(i + j) * 2 + 1];
-        if !pair_refers(x, e, variables, exprs) {
-            return false;
-        }
-        j += 1;
-    }
-    true
+    (0..rows_from(Program::PAIRS, i, n)).all(|j| {
+        let x = program.inits[(i + j) * 2];
+        let e = program.inits[(i + j) * 2 + 1];
+        pair_refers(x, e, c)
+    })
 }
 
 // What a `new` names is there, and its variable is of type id. Linear in its pairs.
-fn new_refers<'a>(
-    x: usize,
-    k: usize,
-    i: usize,
-    n: usize,
-    c: Counts,
-    owners: &'a [u16; Program::ALL_VARIABLES + 1],
-    holds: &'a [u8; Program::ALL_VARIABLES + 1],
-    inits: &[u16; 2 * Program::PAIRS],
-) -> bool
-    ensures { (p : Lines) → Counted p c → p.variables ≡ variables_of owners.now holds.now → result ≡ (stmt_refers p (new x k (pairs_of inits.now i n))).test }
+fn new_refers(program: &Program, x: usize, k: usize, i: usize, n: usize, c: Counts) -> bool
+    ensures { (p : Lines) → Counted p c → p.variables ≡ variables_of program.now.variable_of program.now.variable_type → result ≡ (stmt_refers p (new x k (pairs_of program.now.inits i n))).test }
 {
-    let t = variable_type(owners, holds, x);
-    let pairs = pairs_refer(inits, i, n, c.variables, c.exprs);
-    let made = both(there(c.kinds, k), pairs);
-    both(there(c.variables, x), both(is_id(t), made))
+    let t = variable_type(&program.variable_of, &program.variable_type, x);
+    there(c.variables, x) && t == Ty::Id && there(c.kinds, k) && pairs_refer(program, i, n, c)
 }
 
 // What a statement names is there. Linear in its pairs.
-fn stmt_refers<'a>(
-    h: Head,
-    c: Counts,
-    owners: &'a [u16; Program::ALL_VARIABLES + 1],
-    holds: &'a [u8; Program::ALL_VARIABLES + 1],
-    inits: &[u16; 2 * Program::PAIRS],
-) -> bool
-    ensures { (p : Lines) → Counted p c → p.variables ≡ variables_of owners.now holds.now → result ≡ (stmt_refers p (stmt_of inits.now h)).test }
+fn stmt_refers(program: &Program, h: Head, c: Counts) -> bool
+    ensures { (p : Lines) → Counted p c → p.variables ≡ variables_of program.now.variable_of program.now.variable_type → result ≡ (stmt_refers p (stmt_of program.now.inits h)).test }
 {
     match h {
-        Head::Skip => true,
-        Head::Assign(x, e) => both(there(c.variables, x as usize), there(c.exprs, e as usize)),
+        Head::Skip | Head::Delete | Head::Leave | Head::Return => true,
+        Head::Assign(x, e) => {
+            there(c.variables, usize::from(x)) && there(c.exprs, usize::from(e))
+        }
         Head::New(x, k, i, n) => new_refers(
-            x as usize,
-            k.0 as usize,
-            i as usize,
-            n as usize,
+            program,
+            usize::from(x),
+            usize::from(k.0),
+            usize::from(i),
+            usize::from(n),
             c,
-            owners,
-            holds,
-            inits,
         ),
-        Head::Delete => true,
-        Head::Send(t, e, a) => both(
-            there(c.exprs, t as usize),
-            both(there(c.events, e as usize), a as usize <= c.exprs),
-        ),
-        Head::Raise(e, a) => both(there(c.events, e as usize), a as usize <= c.exprs),
-        Head::Leave => true,
-        Head::Return => true,
-        Head::Assert(e) => there(c.exprs, e as usize),
-        Head::Seq(a, b) => both(a as usize <= c.stmts, b as usize <= c.stmts),
-        Head::If(e, a, b) => both(
-            there(c.exprs, e as usize),
-            both(a as usize <= c.stmts, b as usize <= c.stmts),
-        ),
-        Head::While(e, a) => both(there(c.exprs, e as usize), a as usize <= c.stmts),
+        Head::Send(t, e, a) => {
+            there(c.exprs, usize::from(t))
+                && there(c.events, usize::from(e))
+                && usize::from(a) <= c.exprs
+        }
+        Head::Raise(e, a) => there(c.events, usize::from(e)) && usize::from(a) <= c.exprs,
+        Head::Assert(e) => there(c.exprs, usize::from(e)),
+        Head::Seq(a, b) => usize::from(a) <= c.stmts && usize::from(b) <= c.stmts,
+        Head::If(e, a, b) => {
+            there(c.exprs, usize::from(e)) && usize::from(a) <= c.stmts && usize::from(b) <= c.stmts
+        }
+        Head::While(e, a) => there(c.exprs, usize::from(e)) && usize::from(a) <= c.stmts,
     }
 }
 
 // The first faulty row of the statements. Linear in the statements and their pairs.
-pub fn stmts_refer<'a>(
-    stmts: &[u16; 5 * (Program::STATEMENTS + 1)],
-    c: Counts,
-    owners: &'a [u16; Program::ALL_VARIABLES + 1],
-    holds: &'a [u8; Program::ALL_VARIABLES + 1],
-    inits: &[u16; 2 * Program::PAIRS],
-) -> usize
-    ensures { (result ≤ 1024) × ((p : Lines) → Counted p c → p.variables ≡ variables_of owners.now holds.now → p.stmts ≡ stmts_of stmts.now inits.now → result ≡ row_fault (refers p).stmt p.stmts) }
+pub fn stmts_refer(program: &Program, c: Counts) -> Option<usize>
+    ensures row { (p : Lines) → Counted p c → p.variables ≡ variables_of program.now.variable_of program.now.variable_type → p.stmts ≡ stmts_of program.now.stmts program.now.inits → result ≡ line_of (row_fault (refers p).stmt p.stmts) }
+    ensures bound { number_of result ≤ 1024 }
 {
-    let n = stmt_count(stmts);
-    let mut i = 0;
-    while i < n {
-        let h = stmt_at(stmts, i + 1);
-        if !stmt_refers(h, c, owners, holds, inits) {
-            return i + 1;
-        }
-        i += 1;
-    }
-    0
+    first_bad(stmt_count(&program.stmts), |i| {
+        stmt_refers(program, stmt_at(&program.stmts, i), c)
+    })
 }

@@ -1,4 +1,5 @@
 // The number that document 01 gives each answer.
+// stays: no plainer: the cast of an enum that numbers its answers, under the name that contracts cite
 #![tactic(auto)]
 
 ghost use Rattle.std.specs.Prelude.{◌≡◌};
@@ -9,29 +10,5 @@ use answers::Answer;
 pub fn number(a: Answer) -> u8
     ensures { result ≡ number a }
 {
-    match a {
-        Answer::Done => 0,
-        Answer::TextTooLong => 1,
-        Answer::NotInForm => 2,
-        Answer::OutOfRange => 3,
-        Answer::NotThere => 4,
-        Answer::NotLower => 5,
-        Answer::Doubled => 6,
-        Answer::ExitLeaves => 7,
-        Answer::TooHigh => 8,
-        Answer::NoState => 9,
-        Answer::AssertionFalse => 10,
-        Answer::SendToUndefined => 11,
-        Answer::SendToNotLive => 12,
-        Answer::StackEmpty => 13,
-        Answer::NotABool => 14,
-        Answer::WrongType => 15,
-        Answer::QueueFull => 16,
-        Answer::StackFull => 17,
-        Answer::NoRoom => 18,
-        Answer::UnableToStep => 19,
-        Answer::NotAccepted => 20,
-        Answer::BufferTooShort => 21,
-        Answer::TookNoStep => 22,
-    }
+    a as u8
 }

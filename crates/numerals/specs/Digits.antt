@@ -1,14 +1,12 @@
 -- The loop over the digits of a number: what the bytes that are left say, after the number so far.
 use Prim.Native.Nat.{ℕ, suc, ◌+◌, ◌-◌, ◌*◌, ◌≤◌, ◌<◌, min}
-use Rattle.std.specs.Prelude.{◌≡◌, refl, Bool, true, false, not, cond, List, [], ◌∷◌, eqb, length, drop, get_or}
+use Rattle.std.specs.Prelude.{◌≡◌, refl, Bool, true, false, not, cond, List, [], ◌∷◌, eqb, length, drop, get_or, Option, Some, None}
 use Rattle.std.proofs.Common.{ap, sym, ◌∙◌, add-one, drop_of_length-le, drop-cons}
 use Rattle.std.proofs.Math.Option.{none, some}
 use native.Mathlib.Omega.{arith}
 use borrow.Author.Tests.{le-leb, lt-leb}
 use Rattle.lists.specs.Lists.{all}
 use Rattle.texts.specs.Numbers.{digit, value, plain, decimal}
-use Rattle.numerals.specs.declared.Numeral.{Numeral}
-use Rattle.numerals.specs.declared.Numeral.TheVariants.{Not as no_number, Number as number}
 use Rattle.numerals.specs.Numerals.{CAP, capped}
 
 -- SOME DIGITS, AND NO ZERO IN FRONT OF ANOTHER
@@ -39,7 +37,7 @@ value_cut (b ∷ d) v = sym (value_cut d (10 * min v CAP + (b - 48))) ∙ ap (λ
     step v x = omega arith
 
 -- what the bytes d say after v: no number where one of them is no digit
-unfoldable pub said : ℕ → List ℕ → Numeral
+unfoldable pub said : ℕ → List ℕ → Option ℕ
 said v d = capped (cond (all digit d) (some (value v d)) none)
 
 -- The number so far may be cut.
@@ -48,7 +46,7 @@ unfolding said
 said_cut v d = go (all digit d)
   where
     go : (t : Bool) → capped (cond t (some (value (min v CAP) d)) none) ≡ capped (cond t (some (value v d)) none)
-    go true = ap number (value_cut d v)
+    go true = ap Some (value_cut d v)
     go false = refl
 
 -- at the first byte
@@ -57,7 +55,7 @@ unfolding said
 said_first d p = rw p
 
 -- not plain
-pub said_plain : (d : List ℕ) → plain d ≡ false → capped (decimal d) ≡ no_number
+pub said_plain : (d : List ℕ) → plain d ≡ false → capped (decimal d) ≡ None
 said_plain d p = rw p
 
 module _ (d : List ℕ) (i v : ℕ) where
@@ -69,16 +67,21 @@ module _ (d : List ℕ) (i v : ℕ) where
       (sym (said_cut (10 * v + (get_or d i 0 - 48)) (drop (suc i) d)))
 
   -- a byte below the digits
-  pub said_low : i < length d → get_or d i 0 < 48 → said v (drop i d) ≡ no_number
+  pub said_low : i < length d → get_or d i 0 < 48 → said v (drop i d) ≡ None
   unfolding said
   said_low h l = rw (drop-cons d i 0 h, lt-leb 48 (get_or d i 0) l)
 
   -- a byte above them
-  pub said_high : i < length d → 57 < get_or d i 0 → said v (drop i d) ≡ no_number
+  pub said_high : i < length d → 57 < get_or d i 0 → said v (drop i d) ≡ None
   unfolding said
   said_high h l = rw (drop-cons d i 0 h, le-leb 48 (get_or d i 0) (omega arith), lt-leb (get_or d i 0) 57 l)
 
+  -- a byte that is none of them
+  pub said_other : i < length d → digit (get_or d i 0) ≡ false → said v (drop i d) ≡ None
+  unfolding said
+  said_other h n = rw (drop-cons d i 0 h, n)
+
   -- no byte is left
-  pub said_all : length d ≤ i → v ≤ CAP → said v (drop i d) ≡ number v
+  pub said_all : length d ≤ i → v ≤ CAP → said v (drop i d) ≡ Some v
   unfolding said
   said_all h l = let e : min v CAP ≡ v = omega arith in rw (drop_of_length-le d h, e)

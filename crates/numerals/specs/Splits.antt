@@ -1,7 +1,11 @@
 -- The parts of a list between the bytes c, by their places: the first is behind none, and each other is behind a c.
-use Rattle.std.specs.Prelude.{ℕ, suc, ◌+◌, ◌-◌, ◌≤◌, ◌<◌, ◌≡◌, refl, Bool, true, false, cond, ◌&&◌, ◌||◌, List, [], ◌∷◌, ◌++◌, eqb, length, take, drop, get_or}
-use Rattle.std.proofs.Common.{ap, sym, ◌∙◌, true≢false, add-one, arith, eqb-true, ne_eqb, length-take, length-drop, take-add, take_all, drop-drop, drop-cons, get_or-take, get_or-drop}
+use Rattle.std.specs.Prelude.{ℕ, suc, ◌+◌, ◌-◌, ◌≤◌, ◌<◌, ◌≡◌, refl, Bool, true, false, cond, ◌&&◌, ◌||◌, nat_eq, nat_lt, position, MatchOption, Option, Some, None, List, [], ◌∷◌, ◌++◌, eqb, length, take, drop, get_or}
+use Rattle.std.proofs.Common.{ap, sym, ◌∙◌, true≢false, add-one, arith, eqb-true, ltb-false, ne_eqb, length-take, length-drop, take-add, take_all, drop-drop, drop-cons, get_or-take, get_or-drop}
 use Rattle.std.proofs.Math.Option.{none}
+use Rattle.std.specs.List.{position_or_len}
+use Rattle.std.proofs.lemmas.Bool.{eqb-false}
+use Rattle.std.proofs.lemmas.List.Quantifiers.{position-Some}
+use Rattle.std.proofs.lemmas.List.Sums.{fails_before_first}
 use Rattle.std.proofs.Math.Bool.{and-false}
 use Rattle.lists.specs.Lists.{any, all, total}
 use Rattle.lists.specs.Facts.{eqb_same, or_none, and_fails, range_more}
@@ -140,3 +144,38 @@ module _ (c : ℕ) (d : List ℕ) (from to : ℕ) where
   -- none
   pub past_all : (i : ℕ) → Past c d from to i → to ≤ i → Until c d from to i
   past_all i p h = record { low = p.low; high = p.high; free = p.free; stop = λ k. absurd (omega arith) }
+
+-- where `position` finds none, none passes
+none_passes : (p : ℕ → Bool) (xs : List ℕ) → position p xs ≡ None → (k : ℕ) → k < length xs → p (get_or xs k 0) ≡ false
+none_passes p xs e k h = go (nat_lt (position_or_len p xs) (length xs)) refl e
+  where
+    go : (t : Bool) → nat_lt (position_or_len p xs) (length xs) ≡ t → cond t (Some (position_or_len p xs)) None ≡ None → p (get_or xs k 0) ≡ false
+    go true q z = absurd cc
+    go false q z = fails_before_first p xs k 0 (omega (arith, ltb-false _ _ q))
+
+-- The first place by the library's `position`: r is `from` and the place among the bytes of the part, or `to` where that has none.
+module _ (c : ℕ) (d : List ℕ) (from to : ℕ) (s : Span d from to) where
+  -- as many bytes as places
+  long : length (span from to d) ≡ to - from
+  long = span_length from to d s.inside
+
+  -- no c at the places whose bytes are none
+  free_at : (r i : ℕ) → r ≡ from + i → r ≤ to → ((k : ℕ) → k < i → nat_eq (get_or (span from to d) k 0) c ≡ false) → Past c d from to r
+  free_at r i e h f = record {
+    low = omega arith;
+    high = h;
+    free = λ k l m q.
+        let z : from + (k - from) ≡ k = omega arith in
+        eqb-false _ _ (f (k - from) (omega arith)) (rw (span_get from to d (k - from) (omega arith), z) q);
+  }
+
+  -- o is what `position` finds
+  pub placed : (o : Option ℕ) (r : ℕ) → o ≡ position (λ b. nat_eq b c) (span from to d) → MatchOption o (r ≡ to) (λ i. r ≡ from + i) → Until c d from to r
+  placed o r p h = go o (sym p) h
+    where
+      go : (o : Option ℕ) → position (λ b. nat_eq b c) (span from to d) ≡ o → MatchOption o (r ≡ to) (λ i. r ≡ from + i) → Until c d from to r
+      go None e h =
+          past_all c d from to r (free_at r (to - from) (omega (arith, s.ordered)) (omega arith) (λ k l. none_passes (λ b. nat_eq b c) (span from to d) e k (omega (arith, long)))) (omega arith)
+      go (Some i) e h =
+          let p = position-Some (λ b. nat_eq b c) (span from to d) i 0 e in
+          past_found c d from to r (free_at r i h (omega (arith, p.0, long)) p.2) (rw h (sym (span_get from to d i (omega (arith, p.0, long))) ∙ eqb-true _ _ p.1))

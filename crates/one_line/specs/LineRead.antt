@@ -17,6 +17,7 @@ use Rattle.spoken.specs.Spoken.{pairs_at, line_at}
 use Rattle.spoken.specs.Took.{Took}
 use Rattle.lengths.specs.Counted.{moves_in, pairs_in}
 use Rattle.lengths.specs.Lengths.{said_bytes}
+use Rattle.gathering.specs.declared.Lines.{Lines}
 use Rattle.taking_lines.specs.Rows.{step_row, call_row, act_row, kind_machine, kind_step, kind_call, kind_start}
 use Rattle.taking_lines.specs.Asked.{Gathered, LineAsked}
 use Rattle.one_line.specs.Turns.{read_unranged, read_on}
@@ -41,7 +42,7 @@ moves_row s places row l h = dite (ℕ_discrete row 38)
     (λ e. ap moves_in (call_row s places row (omega (arith, e)) (omega (arith, e))).1)
     (λ o. ap moves_in (act_row s places row (omega (arith, n, o)) (omega arith)).1))
 
-module _ {types owners holds rooms exprs : List ℕ} {kinds variables absent : ℕ} {stmts inits actors bodies homes entries exits flags moves choices : List ℕ} {pairs steps calls acts start count : ℕ} (s : List ℕ) (last i : ℕ) (h : LineTurn s last i types owners holds rooms exprs kinds variables absent stmts inits actors bodies homes entries exits flags moves choices pairs steps calls acts start count)
+module _ {x : Lines} (s : List ℕ) (last i : ℕ) (h : LineTurn s last i x)
     (e : ℕ) (u : Until LF s i (length s) e) (l : e < length s) (r : Form) (w : Recognised s i e r) (low : r.row < 44) where
   -- the line
   abbrev pub said_line : Said
@@ -57,7 +58,7 @@ module _ {types owners holds rooms exprs : List ℕ} {kinds variables absent : �
 
   module _ (o : ordered last said_line ≡ true) where
     -- WHAT TAKING IT ASKS
-    abbrev pub line_asked : LineAsked s r.row r.at types owners holds rooms exprs kinds variables absent stmts inits actors bodies homes entries exits flags moves choices pairs steps calls acts start count
+    abbrev pub line_asked : LineAsked s r.row r.at x
     line_asked = record {
       lines = h.lines;
       gathered = h.gathered;
@@ -76,14 +77,14 @@ module _ {types owners holds rooms exprs : List ℕ} {kinds variables absent : �
     }
 
     -- OUT OF RANGE
-    pub line_unranged : {types' owners' holds' rooms' exprs' : List ℕ} {kinds' variables' absent' : ℕ} {stmts' inits' actors' bodies' homes' entries' exits' flags' moves' choices' : List ℕ} {pairs' steps' calls' acts' start' count' : ℕ} {r : Bool} {taken : Type 0} → Took r (ranged h.lines said_line) taken (Gathered h.lines types' owners' holds' rooms' exprs' kinds' variables' absent' stmts' inits' actors' bodies' homes' entries' exits' flags' moves' choices' pairs' steps' calls' acts' start' count')
-        → r ≡ false → RefusedAt s last i h.lines OutOfRange types' owners' holds' rooms' exprs' kinds' variables' absent' stmts' inits' actors' bodies' homes' entries' exits' flags' moves' choices' pairs' steps' calls' acts' start' count'
+    pub line_unranged : {x' : Lines} {r : Bool} {taken : Type 0} → Took r (ranged h.lines said_line) taken (Gathered h.lines x')
+        → r ≡ false → RefusedAt s last i h.lines OutOfRange x'
     line_unranged t q = record { same = λ n. read_unranged s last h.lines n i e u l said_line says o (sym t.told ∙ q); gathered = t.left q }
 
     -- READ
-    pub line_read : {types' owners' holds' rooms' exprs' : List ℕ} {kinds' variables' absent' : ℕ} {stmts' inits' actors' bodies' homes' entries' exits' flags' moves' choices' : List ℕ} {pairs' steps' calls' acts' start' count' : ℕ} {k : ℕ} {r : Bool} {kept : Type 0} → k ≡ kind said_line
-        → Took r (ranged h.lines said_line) (Gathered (put said_line h.lines) types' owners' holds' rooms' exprs' kinds' variables' absent' stmts' inits' actors' bodies' homes' entries' exits' flags' moves' choices' pairs' steps' calls' acts' start' count') kept → r ≡ true
-        → Turned s last i h.lines (e + 1) k types' owners' holds' rooms' exprs' kinds' variables' absent' stmts' inits' actors' bodies' homes' entries' exits' flags' moves' choices' pairs' steps' calls' acts' start' count'
+    pub line_read : {x' : Lines} {k : ℕ} {r : Bool} {kept : Type 0} → k ≡ kind said_line
+        → Took r (ranged h.lines said_line) (Gathered (put said_line h.lines) x') kept → r ≡ true
+        → Turned s last i h.lines (e + 1) k x'
     line_read z t q = rw z (record {
       lines = put said_line h.lines;
       more = record { ends = e; until = u; line = said_line; says = says; next = refl; sort = refl; taken = refl };

@@ -1,5 +1,5 @@
 -- BEFORE A LINE AND AFTER IT: what is asked before it, and what comes of it.
-use Rattle.std.specs.Prelude.{ℕ, ◌+◌, ◌≤◌, ◌<◌, ◌≡◌, true, List, leb, length}
+use Rattle.std.specs.Prelude.{Result, Ok, Err, ℕ, ◌+◌, ◌≤◌, ◌<◌, ◌≡◌, true, List, leb, length}
 use Rattle.std.proofs.Math.Logic.{dite}
 use Rattle.std.proofs.Math.Option.{some}
 use Rattle.std.proofs.Math.Decide.{ℕ_discrete}
@@ -11,16 +11,16 @@ use Rattle.texts.specs.Forms.{Said, said}
 use Rattle.texts.specs.Reading.{Tables, put, kind, ordered, refused}
 use Rattle.numerals.specs.Splits.{span, Until}
 use Rattle.shapes.specs.Lines.{LineAt}
+use Rattle.gathering.specs.declared.Lines.{Lines}
 use Rattle.taking_lines.specs.Asked.{Gathered}
-use Rattle.one_line.specs.declared.Turn.{Turn}
-use Rattle.one_line.specs.declared.Turn.TheVariants.{On, Refused}
+use Rattle.one_line.specs.declared.Next.{Next}
 use Rattle.one_line.specs.Turns.{read_from}
 use Rattle.one_line.specs.Order.{Later, Weighs}
 
 -- BEFORE A LINE at place i, after lines the last of which is of kind `last`
-pub record LineTurn (s : List ℕ) (last i : ℕ) (types owners holds rooms exprs : List ℕ) (kinds variables absent : ℕ) (stmts inits actors bodies homes entries exits flags moves choices : List ℕ) (pairs steps calls acts start count : ℕ) : Type 0 where
+pub record LineTurn (s : List ℕ) (last i : ℕ) (x : Lines) : Type 0 where
   pub lines : Tables
-  pub gathered : Gathered lines types owners holds rooms exprs kinds variables absent stmts inits actors bodies homes entries exits flags moves choices pairs steps calls acts start count
+  pub gathered : Gathered lines x
   pub later : Later last lines
   pub weighs : Weighs lines i
   pub inside : i < length s
@@ -37,25 +37,25 @@ pub record OneMore (s : List ℕ) (i : ℕ) (a : Tables) (j k : ℕ) (b : Tables
   pub taken : b ≡ put line a
 
 -- AFTER A LINE that is read: the next begins at place j, after one of kind k
-pub record Turned (s : List ℕ) (last i : ℕ) (a : Tables) (j k : ℕ) (types owners holds rooms exprs : List ℕ) (kinds variables absent : ℕ) (stmts inits actors bodies homes entries exits flags moves choices : List ℕ) (pairs steps calls acts start count : ℕ) : Type 0 where
+pub record Turned (s : List ℕ) (last i : ℕ) (a : Tables) (j k : ℕ) (x : Lines) : Type 0 where
   pub lines : Tables
   pub more : OneMore s i a j k lines
   pub same : (n : ℕ) → read_from s last a n i ≡ read_from s k lines (n + 1) j
-  pub gathered : Gathered lines types owners holds rooms exprs kinds variables absent stmts inits actors bodies homes entries exits flags moves choices pairs steps calls acts start count
+  pub gathered : Gathered lines x
   pub later : Later k lines
   pub weighs : Weighs lines j
   pub further : i < j
   pub inside : j ≤ length s
 
 -- AFTER A LINE that is refused: the arrays hold the lines in front of it
-pub record RefusedAt (s : List ℕ) (last i : ℕ) (a : Tables) (b : Answer) (types owners holds rooms exprs : List ℕ) (kinds variables absent : ℕ) (stmts inits actors bodies homes entries exits flags moves choices : List ℕ) (pairs steps calls acts start count : ℕ) : Type 0 where
+pub record RefusedAt (s : List ℕ) (last i : ℕ) (a : Tables) (b : Answer) (x : Lines) : Type 0 where
   pub same : (n : ℕ) → read_from s last a n i ≡ (refused b n, a)
-  pub gathered : Gathered a types owners holds rooms exprs kinds variables absent stmts inits actors bodies homes entries exits flags moves choices pairs steps calls acts start count
+  pub gathered : Gathered a x
 
 -- what comes of a line
-abbrev pub TurnedAs : List ℕ → ℕ → ℕ → Tables → Turn → List ℕ → List ℕ → List ℕ → List ℕ → List ℕ → ℕ → ℕ → ℕ → List ℕ → List ℕ → List ℕ → List ℕ → List ℕ → List ℕ → List ℕ → List ℕ → List ℕ → List ℕ → ℕ → ℕ → ℕ → ℕ → ℕ → ℕ → Type 0
-TurnedAs s last i a (On j k) types owners holds rooms exprs kinds variables absent stmts inits actors bodies homes entries exits flags moves choices pairs steps calls acts start count = Turned s last i a j k types owners holds rooms exprs kinds variables absent stmts inits actors bodies homes entries exits flags moves choices pairs steps calls acts start count
-TurnedAs s last i a (Refused b) types owners holds rooms exprs kinds variables absent stmts inits actors bodies homes entries exits flags moves choices pairs steps calls acts start count = RefusedAt s last i a b types owners holds rooms exprs kinds variables absent stmts inits actors bodies homes entries exits flags moves choices pairs steps calls acts start count
+abbrev pub TurnedAs : List ℕ → ℕ → ℕ → Tables → Result Next Answer → Lines → Type 0
+TurnedAs s last i a (Ok n) x = Turned s last i a n.at n.kind x
+TurnedAs s last i a (Err b) x = RefusedAt s last i a b x
 
 -- THE ORDER of a line in its place
 -- where its kind is at most k, below the start's, so is the last one's,

@@ -1,5 +1,5 @@
 -- The heads whose rules touch only the machine itself: what their functions are asked, from what all of them are asked, and what is left.
-use Rattle.std.specs.Prelude.{ℕ, ◌+◌, ◌-◌, ◌*◌, ◌≤◌, ◌<◌, ◌≡◌, refl, List, [], ◌∷◌, get_or}
+use Rattle.std.specs.Prelude.{ℕ, ◌+◌, ◌-◌, ◌*◌, ◌≤◌, ◌<◌, ◌≡◌, refl, List, [], ◌∷◌, get_or, Err}
 use Rattle.std.proofs.Common.{sym, ◌∙◌, subst, arith}
 use Rattle.lists.specs.Facts.{has, first_has}
 use Rattle.answers.specs.declared.Answer.TheVariants.{NotAccepted}
@@ -8,12 +8,13 @@ use Rattle.programs.specs.Statements.{exprs_of}
 use Rattle.machines.specs.Config.{Machine}
 use Rattle.tables.specs.declared.Head.{Head}
 use Rattle.tables.specs.declared.Head.TheVariants.{Skip, Assign, New, Delete, Send, Raise, Leave, Return, Assert, Seq, If, While}
+use Rattle.tables.specs.declared.Program.{Program as Tables}
 use Rattle.tables.specs.Decode as decode
+use Rattle.index.specs.declared.Index.{Index}
 use Rattle.index.specs.Index.{Says, Places}
 use Rattle.maps.specs.Maps.{map_at}
-use Rattle.configs.specs.Flat.{Flat}
-use Rattle.engine.specs.declared.Outcome.{Outcome}
-use Rattle.engine.specs.declared.Outcome.TheVariants.{Refused}
+use Rattle.configs.specs.declared.Flat.{Flat}
+use Rattle.engine.specs.Outcome.{Outcome}
 use Rattle.engine.specs.Engine.{Acted}
 use Rattle.engine.specs.Holding.{StackHeld}
 use Rattle.remaining.specs.Held.{with_row, with_pending}
@@ -49,6 +50,10 @@ pub record OwnAsked (stmts exprs places says types owners vartypes homes exits d
   pub held_are : f.held ≡ held
   pub bits : w < 256
 
+-- the same of the program, what is looked up of it, and the configuration, each lent whole
+abbrev pub OwnAskedOf : Tables → Index → Flat → ℕ → ℕ → Head → Type 0
+OwnAskedOf q x f k w h = OwnAsked q.stmts q.exprs x.places x.says q.event_types q.variable_of q.variable_type q.state_of q.state_exit f.depths f.states f.maps f.values k w h f.counts f.parts f.held
+
 module _ {stmts exprs places says types owners vartypes homes exits depths states maps values : List ℕ} {k w : ℕ} {h : Head} {counts parts held : List ℕ}
     (a : OwnAsked stmts exprs places says types owners vartypes homes exits depths states maps values k w h counts parts held) where
   -- the act of the head
@@ -57,7 +62,7 @@ module _ {stmts exprs places says types owners vartypes homes exits depths state
 
   -- refused, as no statement of a row is
   abbrev pub LeftAlone : Outcome → Flat → Type 0
-  LeftAlone r g = (r ≡ Refused NotAccepted) × (g ≡ a.f)
+  LeftAlone r g = (r ≡ Err NotAccepted) × (g ≡ a.f)
 
 -- WHAT IS LEFT, by the head: three heads are others'
 abbrev pub Left : {stmts exprs places says types owners vartypes homes exits depths states maps values : List ℕ} {k w : ℕ} {counts parts held : List ℕ} (h : Head)
@@ -100,7 +105,7 @@ module _ {stmts exprs places says types owners vartypes homes exits depths state
       → LeftBy a r (with_stored a.f values counts' parts' held')
   pending_left r counts' parts' held' d = subst (LeftBy a r) (pending_lists counts' parts' held') d
 
-  pub alone_left : LeftAlone a (Refused NotAccepted) (with_stored a.f values counts parts held)
+  pub alone_left : LeftAlone a (Err NotAccepted) (with_stored a.f values counts parts held)
   alone_left = (refl, same_lists)
 
   -- WHAT THE FUNCTIONS ARE ASKED

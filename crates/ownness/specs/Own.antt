@@ -2,6 +2,7 @@
 -- serves, and those of an init list are of the kind that is created.
 use Prim.Native.Nat.{ℕ, zero, suc, ◌+◌, ◌-◌, ◌*◌, ◌≤◌, ◌<◌, min}
 use Rattle.std.specs.Prelude.{◌≡◌, refl, Bool, true, false, not, ◌&&◌, ◌||◌, List, [], ◌∷◌, eqb, get_or}
+use Rattle.std.specs.List.{list_all, range_with_len}
 use Rattle.std.proofs.Common.{ap, sym, ◌∙◌, ⊎_elim, eq-eqb, ne_eqb}
 use native.Mathlib.Omega.{arith}
 use Rattle.lists.specs.Lists.{at, all, up_to, There}
@@ -235,6 +236,15 @@ module _ (f : ℕ × ℕ → Bool) (inits : List ℕ) (i m : ℕ) where
   pair_none j c h e s =
       let p : m - j ≡ 0 = omega arith in
       rw (p, e) at s
+
+-- the pairs of an init list, tested by their numbers
+pub pairs_tested : (f : ℕ × ℕ → Bool) (inits : List ℕ) (i m c : ℕ) → m ≡ min c (PAIRS - i) → list_all (λ j. f (pair_in inits (i + j))) (range_with_len 0 m) ≡ all f (pairs_of inits i c)
+unfolding table pairs_of
+pairs_tested f inits i m c e = let z : i + 0 ≡ i = omega arith in rw (← e) (rw z at (from 0 m))
+  where
+    from : (j n : ℕ) → list_all (λ j. f (pair_in inits (i + j))) (range_with_len j n) ≡ all f (table (pair_in inits) (i + j) n)
+    from j zero = refl
+    from j (suc n) = let p : i + j + 1 ≡ i + (j + 1) = omega arith in rw (p, from (j + 1) n)
 
 -- a leaf that names a variable
 pub var_told : (marks : List ℕ) (kinds : ℕ) (variable_of : List ℕ) (n : ℕ) (l : Leaf) (x k : ℕ) (r : Bool) → l ≡ var x → k ≡ kind_in variable_of x → r ≡ own_at marks kinds n k

@@ -8,211 +8,93 @@ ghost use Rattle.programs.specs.Program.{Program as Lines};
 ghost use Rattle.tables.specs.Decode.{pairs_of};
 ghost use Rattle.soundness.specs.Asked.{own as asked};
 ghost use Rattle.soundness.specs.Sound.{lines, first_fault};
-ghost use Rattle.faults.specs.First.{first_bad};
-ghost use Rattle.faults.specs.Asking.{Told};
+ghost use Rattle.faults.specs.Asking.{Tells};
+ghost use Rattle.faults.specs.Lines.{line_of};
 ghost use Rattle.marks.specs.Marks.{Served};
 ghost use Rattle.ownness.specs.Own.{kind_in, own_kind, own_at, own_leaf, own_expr, own_pair, own_stmt};
 
+use faults::{count_rows, first_bad, front, joined, onward};
+use marks::Table;
 use programs::{Expr, Leaf};
-use tables::{Head, Program, rows_from};
+use tables::{Head, Kind, Program, rows_from};
 
 // The kind of variable x.
-fn kind_of(variable_of: &[u16; Program::ALL_VARIABLES + 1], x: u16) -> u8
-    ensures { result ≡ kind_in variable_of.now x }
+fn kind_of(program: &Program, x: u16) -> Kind
+    ensures { result.0 ≡ kind_in program.now.variable_of x }
 {
-    let k = tables::variable_kind(variable_of, x as usize);
-    k.0
+    tables::variable_kind(&program.variable_of, usize::from(x))
 }
 
 // A variable of kind `of` in line n, against a mark of kind k.
-fn own_kind(
-    marks: &[u8; (Program::KINDS + 1) * (Program::STATEMENTS + 1)],
-    n: usize,
-    of: u8,
-    k: usize,
-) -> bool
+fn own_kind(marks: &Table, n: usize, of: Kind, k: usize) -> bool
     requires { (n ≤ 1024) × (k ≤ 16) }
-    ensures { result ≡ own_kind marks.now n of k }
+    ensures { result ≡ own_kind marks.now n of.0 k }
 {
-    if marks[k * (Program::STATEMENTS + 1) + n] == 0 {
-        return true;
-    }
-    of as usize == k
+    marks[k * (Program::STATEMENTS + 1) + n] == 0 || usize::from(of.0) == k
 }
 
 // A variable of kind `of` in line n is of each kind that the line serves. Costs one turn for each kind.
-fn own_at(
-    marks: &[u8; (Program::KINDS + 1) * (Program::STATEMENTS + 1)],
-    kinds: usize,
-    n: usize,
-    of: u8,
-) -> bool
-    requires { (n ≤ 1024) × (kinds ≤ 16) }
-    ensures { result ≡ own_at marks.now kinds n of }
+fn own_at(program: &Program, marks: &Table, n: usize, of: Kind) -> bool
+    requires { (n ≤ 1024) × (program.now.kinds ≤ 16) }
+    ensures { result ≡ own_at marks.now program.now.kinds n of.0 }
 {
-    let mut k = kinds;
-    while 0 < k {
-        if !own_kind(marks, n, of, k) {
-            return false;
-        }
-        k = k - 1;
-    }
-    true
+    first_bad(usize::from(program.kinds), |k| own_kind(marks, n, of, k)).is_none()
 }
 
 // A leaf of expression n names no foreign variable.
-fn own_leaf(
-    marks: &[u8; (Program::KINDS + 1) * (Program::STATEMENTS + 1)],
-    kinds: usize,
-    variable_of: &[u16; Program::ALL_VARIABLES + 1],
-    n: usize,
-    l: Leaf,
-) -> bool
-    requires { (n ≤ 1024) × (kinds ≤ 16) }
-    ensures { result ≡ own_leaf marks.now kinds variable_of.now n l }
+fn own_leaf(program: &Program, marks: &Table, n: usize, l: Leaf) -> bool
+    requires { (n ≤ 1024) × (program.now.kinds ≤ 16) }
+    ensures { result ≡ own_leaf marks.now program.now.kinds program.now.variable_of n l }
 {
     match l {
-        Leaf::Bot => true,
-        Leaf::Int(_) => true,
-        Leaf::Bool(_) => true,
-        Leaf::Var(x) => own_at(marks, kinds, n, kind_of(variable_of, x)),
-        Leaf::This => true,
-        Leaf::Msg => true,
-        Leaf::Arg => true,
-        Leaf::Star => true,
+        Leaf::Var(x) => own_at(program, marks, n, kind_of(program, x)),
+        _ => true,
     }
 }
 
 // Expression n names no foreign variable.
-fn own_expr(
-    marks: &[u8; (Program::KINDS + 1) * (Program::STATEMENTS + 1)],
-    kinds: usize,
-    variable_of: &[u16; Program::ALL_VARIABLES + 1],
-    exprs: &[u32; 3 * (Program::EXPRESSIONS + 1)],
-    n: usize,
-) -> bool
-    requires { (n ≤ 1024) × (kinds ≤ 16) }
-    ensures { result ≡ own_expr marks.now kinds variable_of.now exprs.now n }
+fn own_expr(program: &Program, marks: &Table, n: usize) -> bool
+    requires { (n ≤ 1024) × (program.now.kinds ≤ 16) }
+    ensures { result ≡ own_expr marks.now program.now.kinds program.now.variable_of program.now.exprs n }
 {
-    let x = terms::expr_at(exprs, n);
-    match x {
-        Expr::Leaf(l) => own_leaf(marks, kinds, variable_of, n, l),
-        Expr::Unary(_, _) => true,
-        Expr::Binary(_, _, _) => true,
+    match terms::expr_at(&program.exprs, n) {
+        Expr::Leaf(l) => own_leaf(program, marks, n, l),
+        _ => true,
     }
 }
 
 // The variables of an init list are of kind m. Costs one turn for each pair.
-fn own_pairs(
-    variable_of: &[u16; Program::ALL_VARIABLES + 1],
-    inits: &[u16; 2 * Program::PAIRS],
-    m: u8,
-    i: u16,
-    c: u16,
-) -> bool
-    ensures { result ≡ all (own_pair variable_of.now m) (pairs_of inits.now i c) }
+fn own_pairs(program: &Program, m: Kind, i: u16, c: u16) -> bool
+    ensures { result ≡ all (own_pair program.now.variable_of m.0) (pairs_of program.now.inits i c) }
 {
-    let a = i as usize;
-    let n = rows_from(Program::PAIRS, a, c as usize);
-    let mut j = 0;
-    while j < n {
-        let x = inits[(a + j) * 2];
-        if kind_of(variable_of, x) != m {
-            return false;
-        }
-        j = j + 1;
-    }
-    true
+    let a = usize::from(i);
+    let n = rows_from(Program::PAIRS, a, usize::from(c));
+    (0..n).all(|j| kind_of(program, program.inits[(a + j) * 2]) == m)
 }
 
 // Statement n names no foreign variable.
-fn own_stmt(
-    served: &[u8; (Program::KINDS + 1) * (Program::STATEMENTS + 1)],
-    kinds: usize,
-    variable_of: &[u16; Program::ALL_VARIABLES + 1],
-    stmts: &[u16; 5 * (Program::STATEMENTS + 1)],
-    inits: &[u16; 2 * Program::PAIRS],
-    n: usize,
-) -> bool
-    requires { (n ≤ 1024) × (kinds ≤ 16) }
-    ensures { result ≡ own_stmt served.now kinds variable_of.now stmts.now inits.now n }
+fn own_stmt(program: &Program, served: &Table, n: usize) -> bool
+    requires { (n ≤ 1024) × (program.now.kinds ≤ 16) }
+    ensures { result ≡ own_stmt served.now program.now.kinds program.now.variable_of program.now.stmts program.now.inits n }
 {
-    let h = terms::stmt_at(stmts, n);
-    match h {
-        Head::Assign(x, _) => own_at(served, kinds, n, kind_of(variable_of, x)),
+    match terms::stmt_at(&program.stmts, n) {
+        Head::Assign(x, _) => own_at(program, served, n, kind_of(program, x)),
         Head::New(x, m, i, c) => {
-            if own_at(served, kinds, n, kind_of(variable_of, x)) {
-                own_pairs(variable_of, inits, m.0, i, c)
-            } else {
-                false
-            }
+            own_at(program, served, n, kind_of(program, x)) && own_pairs(program, m, i, c)
         }
         _ => true,
     }
 }
 
-// The first of x expressions that names a foreign variable; 0 where none does.
-fn first_expr(
-    marks: &[u8; (Program::KINDS + 1) * (Program::STATEMENTS + 1)],
-    kinds: usize,
-    variable_of: &[u16; Program::ALL_VARIABLES + 1],
-    exprs: &[u32; 3 * (Program::EXPRESSIONS + 1)],
-    x: usize,
-) -> usize
-    requires { (x ≤ 1024) × (kinds ≤ 16) }
-    ensures { (result ≡ first_bad (own_expr marks.now kinds variable_of.now exprs.now) x) × (result ≤ x) }
+// THE FIRST LINE that names a foreign variable. `served` says which statement serves which kind, and there are at most 16 kinds. Costs 16 turns for each
+// expression and each statement, and one for each pair of an init list for each kind that its statement serves.
+pub fn own(program: &Program, served: &Table) -> Option<usize>
+    requires { program.now.kinds ≤ 16 }
+    ensures { (p : Lines) → Tells p program.now → Served p served.now → result ≡ line_of (first_fault 1 (lines p (asked p))) }
 {
-    let mut e = 1;
-    while e <= x {
-        if !own_expr(marks, kinds, variable_of, exprs, e) {
-            return e;
-        }
-        e = e + 1;
-    }
-    0
-}
-
-// The first of n statements that names a foreign variable; 0 where none does.
-fn first_stmt(
-    served: &[u8; (Program::KINDS + 1) * (Program::STATEMENTS + 1)],
-    kinds: usize,
-    variable_of: &[u16; Program::ALL_VARIABLES + 1],
-    stmts: &[u16; 5 * (Program::STATEMENTS + 1)],
-    inits: &[u16; 2 * Program::PAIRS],
-    n: usize,
-) -> usize
-    requires { (n ≤ 1024) × (kinds ≤ 16) }
-    ensures { (result ≡ first_bad (own_stmt served.now kinds variable_of.now stmts.now inits.now) n) × (result ≤ n) }
-{
-    let mut s = 1;
-    while s <= n {
-        if !own_stmt(served, kinds, variable_of, stmts, inits, s) {
-            return s;
-        }
-        s = s + 1;
-    }
-    0
-}
-
-// THE FIRST LINE that names a foreign variable; 0 where none does. `served` says which statement serves which kind, and there are at most 16 kinds. Costs
-// 16 turns for each expression and each statement, and one for each pair of an init list for each kind that its statement serves.
-pub fn own(
-    event_types: &[u8; Program::EVENTS + 1],
-    kinds: u8,
-    variable_of: &[u16; Program::ALL_VARIABLES + 1],
-    exprs: &[u32; 3 * (Program::EXPRESSIONS + 1)],
-    stmts: &[u16; 5 * (Program::STATEMENTS + 1)],
-    inits: &[u16; 2 * Program::PAIRS],
-    served: &[u8; (Program::KINDS + 1) * (Program::STATEMENTS + 1)],
-) -> usize
-    requires { kinds ≤ 16 }
-    ensures { (p : Lines) → Told event_types.now kinds variable_of.now exprs.now stmts.now inits.now p → Served p served.now → result ≡ first_fault 1 (lines p (asked p)) }
-{
-    let b = faults::front(event_types, kinds, variable_of);
-    let x = tables::expr_count(exprs);
-    let n = tables::stmt_count(stmts);
-    let marks = expr_marks::expr_served(exprs, stmts, inits, served);
-    let e = first_expr(&marks, kinds as usize, variable_of, exprs, x);
-    let s = first_stmt(served, kinds as usize, variable_of, stmts, inits, n);
-    faults::onward(b, faults::joined(e, x, s))
+    let c = count_rows(program);
+    let marks = expr_marks::expr_served(program, served);
+    let e = first_bad(c.exprs, |e| own_expr(program, &marks, e));
+    let s = first_bad(c.stmts, |s| own_stmt(program, served, s));
+    onward(front(program), joined(e, c.exprs, s))
 }

@@ -1,10 +1,12 @@
 // The remaining statement of a room: a row of parts, 33 places from b on in all rooms' parts, its head the last of its n parts, and zeros behind them.
+// stays: no plainer: these functions are lent the arrays that they touch, so that no contract need say that the others stay
+// stays: may not change: Row and Becomes, which speak of a place and a count in all rooms' parts
 #![tactic(auto)]
 
 ghost use Rattle.std.specs.Prelude.{◌≤◌};
 ghost use Rattle.parts.specs.Parts.{Row, Ready, Becomes, Said, Any, alone, finished, settled, tidied};
 
-use tables::{Head, Program, wide};
+use tables::{Head, Program};
 
 // A lone skip with nothing pending is kept as the empty row.
 pub fn lone(
@@ -17,14 +19,9 @@ pub fn lone(
     requires { Row b n parts.old }
     ensures { Becomes b n parts.old (Said stmts.now) (alone pending) result parts.new }
 {
-    if n == 1 {
-        if !pending {
-            let h = terms::stmt_at(stmts, wide(parts[b]));
-            if let Head::Skip = h {
-                parts[b] = 0;
-                return 0;
-            }
-        }
+    if n == 1 && !pending && terms::stmt_at(stmts, usize::from(parts[b])) == Head::Skip {
+        parts[b] = 0;
+        return 0;
     }
     n
 }
@@ -41,12 +38,7 @@ pub fn finish(
 {
     let last = n - 1;
     parts[b + last] = 0;
-    if n == 1 {
-        if !pending {
-            return 0;
-        }
-    }
-    n
+    if n == 1 && !pending { 0 } else { n }
 }
 
 // A seq at the head is split at once.
@@ -60,17 +52,15 @@ pub fn settle(
     ensures { Becomes b n parts.old (Said stmts.now) settled result parts.new }
 {
     let mut last = n - 1;
-    let mut s = wide(parts[b + last]);
-    loop {
-        let h = terms::stmt_at(stmts, s);
-        let Head::Seq(first, second) = h else {
-            return last + 1;
-        };
+    let mut s = usize::from(parts[b + last]);
+    // stays: no plainer: each turn looks at the part that the last one put
+    while let Head::Seq(first, second) = terms::stmt_at(stmts, s) {
         parts[b + last] = second;
         parts[b + last + 1] = first;
         last += 1;
-        s = wide(first);
+        s = usize::from(first);
     }
+    last + 1
 }
 
 // Both rules of form.

@@ -16,7 +16,7 @@ use Rattle.configs.specs.Decode.{pending_of}
 use Rattle.configs.proofs.RoundTrip.{pending_back}
 use Rattle.maps.specs.Maps.{Moves, Tables, Asked, map_at}
 use Rattle.parts.specs.Parts.{Said}
-use Rattle.engine.specs.declared.Outcome.{Outcome}
+use Rattle.engine.specs.Outcome.{Outcome}
 use Rattle.stacks.specs.Stacks.{Deep, top_state, top_map}
 use Rattle.turns.specs.declared.Turn.{Turn}
 use Rattle.turns.specs.declared.Turn.TheVariants.{Step as step_to, Call as call_to, Act as do_act, Pop as pop_it}
@@ -59,11 +59,11 @@ module _ (q : Pending) (x : ℕ) (is : pending_of x ≡ q) where
       (λ (z : x ≡ 0). absurd (i (sym is ∙ rw z)))
       (λ (z : x ≡ 0 → ⊥). sym is ∙ rw (ne_eqb x 0 z, ne_eqb x 1 n))
 
-module _ (says stmts kinds entries flags owners bodies types : List ℕ) (k : ℕ) (depths states maps counts parts held : List ℕ)
+module _ {says stmts kinds entries flags owners bodies types : List ℕ} {k : ℕ} {depths states maps counts parts held : List ℕ}
     (a : PendAsked says stmts kinds entries flags owners bodies types k depths states maps counts parts held) where
   -- its stack has a frame
   pub pend_deep : Deep k depths states maps
-  pend_deep = deep_here k depths states maps counts parts held a.here
+  pend_deep = deep_here a.here
 
   -- the number of what is pending
   pending_is : pending_of (get_or held k 0) ≡ a.here.machine.loc.pending
@@ -87,10 +87,10 @@ module _ (says stmts kinds entries flags owners bodies types : List ℕ) (k : �
     -- what the maps are asked
     pub asked_here : Asked (k * 512 + (get_or depths k 0 - 1) * 64) (get_or states (k * 8 + (get_or depths k 0 - 1)) 0) (get_or held k 0 / 1099511627776)
     asked_here =
-        let d = deep_here k depths states maps counts parts held a.here in
+        let d = deep_here a.here in
         record {
           inside = omega (arith, d.fits, d.room);
-          state = state_64 k depths states maps counts parts held a.here;
+          state = state_64 a.here;
           from_1 = event_here.0;
           event = omega (arith, event_here.1, a.here.bare.sound.is_sized.1.0);
         }
@@ -104,12 +104,12 @@ module _ (says stmts kinds entries flags owners bodies types : List ℕ) (k : �
         (pair_event (get_or held k 0)) (pair_value (get_or held k 0)) t
     act_here t is w =
         let h = a.here in
-        let s = stack_here k depths states maps counts parts held h in
+        let s = stack_here h in
         let e : t ≡ turn_of h.program h.top.state h.top.map (get_or held k 0 / 1099511627776) =
         is h.program a.told.tables.lines event_here.1
         ∙ ap (λ (n : ℕ). turn_of h.program n (map_at h.program (k * 512 + (get_or depths k 0 - 1) * 64) maps) (get_or held k 0 / 1099511627776)) (top_state k depths states maps h.top h.below s)
         ∙ ap (λ (α : List Reply). turn_of h.program h.top.state α (get_or held k 0 / 1099511627776))
-        (top_map k depths states maps h.top h.below s h.program (framed_here k depths states maps counts parts held h)) in
+        (top_map k depths states maps h.top h.below s h.program (framed_here h)) in
         ap (λ (q : Pending). pends h.program h.machine.this h.machine.loc w h.top.state h.top.map h.below q) raise_here
         ∙ pends_turn h.program h.machine.this h.machine.loc w h.top.state h.top.map h.below (pair_event (get_or held k 0)) (pair_value (get_or held k 0))
         ∙ ap (turn_act h.program h.machine.this h.machine.loc w h.top.state h.top.map h.below (pair_event (get_or held k 0)) (pair_value (get_or held k 0))) (sym e)
@@ -136,13 +136,13 @@ module _ (says stmts kinds entries flags owners bodies types : List ℕ) (k : �
   return_asked = record { counts = counts; parts = parts; here = a.here }
 
 -- EACH RULE LEAVES IT
-module _ (says stmts kinds entries flags owners bodies types : List ℕ) (k : ℕ) (depths states maps counts parts held : List ℕ) where
+module _ {says stmts kinds entries flags owners bodies types : List ℕ} {k : ℕ} {depths states maps counts parts held : List ℕ} where
   -- POP2
   pub pend_return : get_or held k 0 ≡ 1 → (r : Outcome) (depths' states' maps' held' : List ℕ) → ReturnLeaves k depths states maps held r depths' states' maps' held'
       → PendLeaves says stmts kinds entries flags owners bodies types k depths states maps counts parts held r depths' states' maps' counts parts held'
   pend_return e r depths' states' maps' held' left a w =
-      rw (return_here says stmts kinds entries flags owners bodies types k depths states maps counts parts held a e)
-      (left (return_asked says stmts kinds entries flags owners bodies types k depths states maps counts parts held a) w)
+      rw (return_here a e)
+      (left (return_asked a) w)
 
   -- of a raise, whose turn is t
   module _ (n : get_or held k 0 ≡ 1 → ⊥) (t : Turn) (is : (p : Program) → Moves p says → get_or held k 0 / 1099511627776 ≤ length p.events
@@ -151,27 +151,27 @@ module _ (says stmts kinds entries flags owners bodies types : List ℕ) (k : �
     pub pend_step : (s : ℕ) → t ≡ step_to s → (r : Outcome) (states' counts' parts' held' : List ℕ) → StepLeaves stmts kinds entries k s depths states counts parts held r states' counts' parts' held'
         → PendLeaves says stmts kinds entries flags owners bodies types k depths states maps counts parts held r depths states' maps counts' parts' held'
     pend_step s e r states' counts' parts' held' left a w =
-        rw (act_here says stmts kinds entries flags owners bodies types k depths states maps counts parts held a n t is w, e)
-        (left (step_asked says stmts kinds entries flags owners bodies types k depths states maps counts parts held a) w)
+        rw (act_here a n t is w, e)
+        (left (step_asked a) w)
 
     -- CALL
     pub pend_call : (s events : ℕ) → t ≡ call_to s → events ≡ count 64 types → (r : Outcome) (depths' states' maps' counts' parts' held' : List ℕ)
         → CallLeaves says stmts kinds entries flags k s events depths states maps counts parts held r depths' states' maps' counts' parts' held'
         → PendLeaves says stmts kinds entries flags owners bodies types k depths states maps counts parts held r depths' states' maps' counts' parts' held'
     pend_call s events e q r depths' states' maps' counts' parts' held' left a w =
-        rw (act_here says stmts kinds entries flags owners bodies types k depths states maps counts parts held a n t is w, e)
-        (left (call_asked says stmts kinds entries flags owners bodies types k depths states maps counts parts held a events q) w)
+        rw (act_here a n t is w, e)
+        (left (call_asked a events q) w)
 
     -- ACTION
     pub pend_action : (x : ℕ) → t ≡ do_act x → (r : Outcome) (counts' parts' held' : List ℕ) → ActionLeaves stmts owners bodies k x counts parts held r counts' parts' held'
         → PendLeaves says stmts kinds entries flags owners bodies types k depths states maps counts parts held r depths states maps counts' parts' held'
     pend_action x e r counts' parts' held' left a w =
-        rw (act_here says stmts kinds entries flags owners bodies types k depths states maps counts parts held a n t is w, e)
-        (left (action_asked says stmts kinds entries flags owners bodies types k depths states maps counts parts held a) w)
+        rw (act_here a n t is w, e)
+        (left (action_asked a) w)
 
     -- POP1
     pub pend_raise : t ≡ pop_it → (r : Outcome) (depths' states' maps' : List ℕ) → RaiseLeaves k depths states maps r depths' states' maps'
         → PendLeaves says stmts kinds entries flags owners bodies types k depths states maps counts parts held r depths' states' maps' counts parts held
     pend_raise e r depths' states' maps' left a w =
-        rw (act_here says stmts kinds entries flags owners bodies types k depths states maps counts parts held a n t is w, e)
-        (left (raise_asked says stmts kinds entries flags owners bodies types k depths states maps counts parts held a n) w)
+        rw (act_here a n t is w, e)
+        (left (raise_asked a n) w)

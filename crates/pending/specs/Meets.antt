@@ -1,5 +1,5 @@
 -- What the rule functions of an empty row leave is what the definitions' act leaves.
-use Rattle.std.specs.Prelude.{ℕ, ◌+◌, ◌-◌, ◌*◌, ◌≤◌, ◌<◌, ◌≡◌, refl, false, List, [], ◌∷◌, length, get_or, set}
+use Rattle.std.specs.Prelude.{ℕ, ◌+◌, ◌-◌, ◌*◌, ◌≤◌, ◌<◌, ◌≡◌, refl, false, List, [], ◌∷◌, length, get_or, set, Ok, Err}
 use Rattle.std.proofs.Common.{sym, ap, ◌∙◌, subst, arith, le-ltb, lt-ltb, get_or-set_same}
 use Rattle.lists.specs.Lists.{at}
 use Rattle.answers.specs.declared.Answer.TheVariants.{StackFull}
@@ -12,9 +12,9 @@ use Rattle.machines.specs.Locals.{remains, stacked}
 use Rattle.machines.specs.Rooms.{set_local}
 use Rattle.rules.specs.declared.Rule.TheVariants.{STEP, ACTION, CALL, POP1, POP2}
 use Rattle.configs.specs.Encode.{held_code}
-use Rattle.configs.specs.Flat.{Flat, room_path}
+use Rattle.configs.specs.declared.Flat.{Flat}
+use Rattle.configs.specs.Flat.{room_path}
 use Rattle.parts.specs.Parts.{Said, Any, tidied}
-use Rattle.engine.specs.declared.Outcome.TheVariants.{Took, Refused}
 use Rattle.engine.specs.Engine.{Changed}
 use Rattle.engine.specs.Holding.{Elsewhere, RowHeld, RowBecomes, StackHeld, untouched, touched_place}
 use Rattle.remaining.specs.Remaining.{Placing}
@@ -22,7 +22,7 @@ use Rattle.remaining.specs.Held.{changed, row_taken, row_there, placing_there, r
 use Rattle.stacks.specs.Stacks.{Deep, Framed, StackBecomes, Callable, CallAsked as Called, popped, stepped, entered, framed, deep, top_state, stack_held}
 use Rattle.pending.specs.Pending.{among, Here, StepAsked, CallAsked, ActionAsked, RaiseAsked, ReturnAsked, StepLeaves, CallLeaves, ActionLeaves, RaiseLeaves, ReturnLeaves}
 
-module _ (k : ℕ) (depths states maps counts parts held : List ℕ) (h : Here k depths states maps counts parts held) where
+module _ {k : ℕ} {depths states maps counts parts held : List ℕ} (h : Here k depths states maps counts parts held) where
   -- the lists
   abbrev pub lists : Flat
   lists = among h.others depths states maps counts parts held
@@ -118,29 +118,29 @@ module _ (k : ℕ) (depths states maps counts parts held : List ℕ) (h : Here k
   returns_meets stack = all_changed stack tt [] row_here untouched untouched idle nothing_held (touched_place k 0 held)
 
 -- STEP
-module _ (stmts kinds entries : List ℕ) (k : ℕ) (depths states counts parts held : List ℕ) where
+module _ {stmts kinds entries : List ℕ} {k : ℕ} {depths states counts parts held : List ℕ} where
   -- what the stack is asked
   pub step_deep : StepAsked stmts kinds entries k depths states counts parts held → (maps : List ℕ) × Deep k depths states maps
-  step_deep a = (a.maps, deep_here k depths states a.maps counts parts held a.here)
+  step_deep a = (a.maps, deep_here a.here)
 
   -- what the row is asked
   pub step_placing : (a : StepAsked stmts kinds entries k depths states counts parts held) (e : ℕ) → Placing stmts k counts parts e 0
-  step_placing a e = placing_here k depths states a.maps counts parts held a.here stmts e a.said
+  step_placing a e = placing_here a.here stmts e a.said
 
   -- what is left
   pub step_left : (n e : ℕ) (states' counts' parts' held' : List ℕ) → ((exits flags : List ℕ) → e ≡ (at no_state (states_of kinds entries exits flags) n).entry)
       → ((maps : List ℕ) → Deep k depths states maps → StackBecomes k depths states maps Any (stepped n) depths states' maps)
       → RowBecomes k counts parts (Said stmts) (λ p r. tidied false p (e ∷ [])) counts' parts' → held' ≡ set held k 0
-      → StepLeaves stmts kinds entries k n depths states counts parts held (Took STEP) states' counts' parts' held'
+      → StepLeaves stmts kinds entries k n depths states counts parts held (Ok STEP) states' counts' parts' held'
   step_left n e states' counts' parts' held' entry stack row gone a w = (
     refl,
-    enters_meets k depths states a.maps counts parts held a.here e (Entry a.here.program n)
-        (stack a.maps (deep_here k depths states a.maps counts parts held a.here)) tt row a.said gone
+    enters_meets a.here e (Entry a.here.program n)
+        (stack a.maps (deep_here a.here)) tt row a.said gone
         (entry a.entered.exits a.entered.flags ∙ ap (λ l. (at no_state l n).entry) (sym a.entered.states)),
   )
 
 -- CALL
-module _ (says stmts kinds entries flags : List ℕ) (k events : ℕ) (depths states maps counts parts held : List ℕ) where
+module _ {says stmts kinds entries flags : List ℕ} {k events : ℕ} {depths states maps counts parts held : List ℕ} where
   module _ (a : CallAsked says stmts kinds entries flags k events depths states maps counts parts held) where
     -- the depth is the stack's
     pub call_depth : get_or depths k 0 ≡ length a.here.machine.loc.stack
@@ -153,9 +153,9 @@ module _ (says stmts kinds entries flags : List ℕ) (k events : ℕ) (depths st
     -- what the stack is asked
     pub call_asked : get_or depths k 0 < 8 → Called says kinds flags k events depths states maps
     call_asked left = record {
-      deep = deep_here k depths states maps counts parts held a.here;
+      deep = deep_here a.here;
       left = left;
-      state = state_64 k depths states maps counts parts held a.here;
+      state = state_64 a.here;
       few = omega (arith, a.here.bare.sound.is_sized.1.0, a.counted);
       program = a.here.program;
       callable = callable;
@@ -163,10 +163,10 @@ module _ (says stmts kinds entries flags : List ℕ) (k events : ℕ) (depths st
 
     -- what the row is asked
     pub call_placing : (e : ℕ) → Placing stmts k counts parts e 0
-    call_placing e = placing_here k depths states maps counts parts held a.here stmts e a.said
+    call_placing e = placing_here a.here stmts e a.said
 
   -- what is left of a stack that is full
-  pub call_full : (n : ℕ) → 8 ≤ get_or depths k 0 → CallLeaves says stmts kinds entries flags k n events depths states maps counts parts held (Refused StackFull) depths states maps counts parts held
+  pub call_full : (n : ℕ) → 8 ≤ get_or depths k 0 → CallLeaves says stmts kinds entries flags k n events depths states maps counts parts held (Err StackFull) depths states maps counts parts held
   call_full n full a w = rw (le-ltb (length a.here.machine.loc.stack) 8 (rw (← call_depth a) full)) (refl, refl)
 
   -- what is left
@@ -174,48 +174,48 @@ module _ (says stmts kinds entries flags : List ℕ) (k events : ℕ) (depths st
       → ((exits flags : List ℕ) → e ≡ (at no_state (states_of kinds entries exits flags) n).entry)
       → StackBecomes k depths states maps (Callable says kinds flags events) (entered n) depths' states' maps'
       → RowBecomes k counts parts (Said stmts) (λ p r. tidied false p (e ∷ [])) counts' parts' → held' ≡ set held k 0
-      → CallLeaves says stmts kinds entries flags k n events depths states maps counts parts held (Took CALL) depths' states' maps' counts' parts' held'
+      → CallLeaves says stmts kinds entries flags k n events depths states maps counts parts held (Ok CALL) depths' states' maps' counts' parts' held'
   call_left n e depths' states' maps' counts' parts' held' few entry stack row gone a w =
       rw (lt-ltb (length a.here.machine.loc.stack) 8 (rw (← call_depth a) few)) (
         refl,
-        enters_meets k depths states maps counts parts held a.here e (Entry a.here.program n) stack (callable a) row a.said gone
+        enters_meets a.here e (Entry a.here.program n) stack (callable a) row a.said gone
             (entry a.exits flags ∙ ap (λ l. (at no_state l n).entry) (sym a.tables.states)),
       )
 
 -- ACTION
-module _ (stmts owners bodies : List ℕ) (k : ℕ) (counts parts held : List ℕ) where
+module _ {stmts owners bodies : List ℕ} {k : ℕ} {counts parts held : List ℕ} where
   -- what the row is asked
   pub action_placing : (a : ActionAsked stmts owners bodies k counts parts held) (e : ℕ) → Placing stmts k counts parts e 0
-  action_placing a e = placing_here k a.depths a.states a.maps counts parts held a.here stmts e a.said
+  action_placing a e = placing_here a.here stmts e a.said
 
   -- what is left
   pub action_left : (x e : ℕ) (counts' parts' held' : List ℕ) → e ≡ (at no_action (actions_of owners bodies) x).body
       → RowBecomes k counts parts (Said stmts) (λ p r. tidied false p (e ∷ [])) counts' parts' → held' ≡ set held k 0
-      → ActionLeaves stmts owners bodies k x counts parts held (Took ACTION) counts' parts' held'
+      → ActionLeaves stmts owners bodies k x counts parts held (Ok ACTION) counts' parts' held'
   action_left x e counts' parts' held' body row gone a w = (
     refl,
-    rw gone (remains_pends a.here.program (lists k a.depths a.states a.maps counts parts held a.here) k a.here.machine a.here.bare.sound a.here.bare.stands
+    rw gone (remains_pends a.here.program (lists a.here) k a.here.machine a.here.bare.sound a.here.bare.stands
         (λ p r. e ∷ []) false idle refl row a.said (Body a.here.program x ∷ [])
         (ap (λ (y : ℕ). y ∷ []) (body ∙ ap (λ l. (at no_action l x).body) (sym a.actions)))),
   )
 
 -- POP1
-module _ (k : ℕ) (depths states maps : List ℕ) where
+module _ {k : ℕ} {depths states maps : List ℕ} where
   -- what the stack is asked
   pub raise_deep : RaiseAsked k depths states maps → Deep k depths states maps
-  raise_deep a = deep_here k depths states maps a.counts a.parts a.held a.here
+  raise_deep a = deep_here a.here
 
   -- what is left
-  pub raise_left : (depths' states' maps' : List ℕ) → StackBecomes k depths states maps Any popped depths' states' maps' → RaiseLeaves k depths states maps (Took POP1) depths' states' maps'
-  raise_left depths' states' maps' stack a w = rw (← a.pends) (refl, pops_meets k depths states maps a.counts a.parts a.held a.here stack)
+  pub raise_left : (depths' states' maps' : List ℕ) → StackBecomes k depths states maps Any popped depths' states' maps' → RaiseLeaves k depths states maps (Ok POP1) depths' states' maps'
+  raise_left depths' states' maps' stack a w = rw (← a.pends) (refl, pops_meets a.here stack)
 
   -- POP2
-  module _ (held : List ℕ) where
+  module _ {held : List ℕ} where
     -- what the stack is asked
     pub return_deep : ReturnAsked k depths states maps held → Deep k depths states maps
-    return_deep a = deep_here k depths states maps a.counts a.parts held a.here
+    return_deep a = deep_here a.here
 
     -- what is left
     pub return_left : (depths' states' maps' : List ℕ) → StackBecomes k depths states maps Any popped depths' states' maps'
-        → ReturnLeaves k depths states maps held (Took POP2) depths' states' maps' (set held k 0)
-    return_left depths' states' maps' stack a w = (refl, returns_meets k depths states maps a.counts a.parts held a.here stack)
+        → ReturnLeaves k depths states maps held (Ok POP2) depths' states' maps' (set held k 0)
+    return_left depths' states' maps' stack a w = (refl, returns_meets a.here stack)

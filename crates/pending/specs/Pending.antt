@@ -7,10 +7,11 @@ use Rattle.soundness.specs.Sound.{Sound}
 use Rattle.machines.specs.Config.{Frame, raising, returning, Machine}
 use Rattle.tables.specs.Decode.{actions_of, states_of}
 use Rattle.maps.specs.Maps.{Tables}
-use Rattle.configs.specs.Flat.{Flat, flat}
+use Rattle.configs.specs.declared.Flat.{Flat}
+use Rattle.configs.specs.Flat.{flat}
 use Rattle.parts.specs.Parts.{Said}
 use Rattle.rules.specs.Act.{Act, stepping, calling, acting, popping, pends}
-use Rattle.engine.specs.declared.Outcome.{Outcome}
+use Rattle.engine.specs.Outcome.{Outcome}
 use Rattle.engine.specs.Engine.{Stands, Acted}
 
 -- THE LISTS that none of these rules touches

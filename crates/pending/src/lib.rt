@@ -1,5 +1,6 @@
 // The rules of an empty row, where something is pending: STEP, CALL, ACTION and POP1 for a raise, POP2 for a return. Each works on room k in the flat arrays;
 // CALL's test of a full stack comes before its first store.
+// stays: no plainer: these functions are lent the arrays that they touch, so that no contract need say that the others stay
 #![tactic(auto)]
 
 ghost use Rattle.std.specs.Prelude.{◌≡◌, false, [], ◌∷◌, set};
@@ -10,6 +11,7 @@ ghost use Rattle.pending.specs.Pending.{StepAsked, CallAsked, ActionAsked, Raise
 
 use answers::Answer;
 use engine::Outcome;
+use index::Says;
 use remaining::only;
 use rules::Rule;
 use stacks::{call_frame, pop_frame, step_frame};
@@ -32,10 +34,8 @@ fn begin(
 }
 
 // STEP: the frame on top is in state n, at its entry statement.
-pub fn step_on<'a>(
-    stmts: &[u16; 5 * (Program::STATEMENTS + 1)],
-    kinds: &'a [u8; Program::STATES + 1],
-    entries: &'a [u16; Program::STATES + 1],
+pub fn step_on(
+    program: &Program,
     depths: &[usize; Program::ROOMS],
     states: &mut [u8; Program::ROOMS * Program::STACK],
     counts: &mut [usize; Program::ROOMS],
@@ -44,22 +44,19 @@ pub fn step_on<'a>(
     k: usize,
     n: u8,
 ) -> Outcome
-    requires { StepAsked stmts.now kinds.now entries.now k depths.now states.old counts.old parts.old held.old }
-    ensures { StepLeaves stmts.now kinds.now entries.now k n depths.now states.old counts.old parts.old held.old result states.new counts.new parts.new held.new }
+    requires { StepAsked program.now.stmts program.now.state_of program.now.state_entry k depths.now states.old counts.old parts.old held.old }
+    ensures { StepLeaves program.now.stmts program.now.state_of program.now.state_entry k n depths.now states.old counts.old parts.old held.old result states.new counts.new parts.new held.new }
 {
-    let e = entry_of(kinds, entries, n as usize);
+    let e = entry_of(&program.state_of, &program.state_entry, usize::from(n));
     step_frame(depths, states, k, n);
-    begin(stmts, counts, parts, held, k, e);
-    Outcome::Took(Rule::STEP)
+    begin(&program.stmts, counts, parts, held, k, e);
+    Ok(Rule::STEP)
 }
 
 // CALL: a frame in state n is on top, at its entry statement; 17 where the stack is full.
-pub fn call_on<'a>(
-    says: &[u8; (Program::STATES + 1) * (Program::EVENTS + 1) * 3],
-    stmts: &[u16; 5 * (Program::STATEMENTS + 1)],
-    kinds: &'a [u8; Program::STATES + 1],
-    entries: &'a [u16; Program::STATES + 1],
-    flags: &'a [u8; (Program::STATES + 1) * (Program::EVENTS + 1)],
+pub fn call_on(
+    program: &Program,
+    says: &Says,
     depths: &mut [usize; Program::ROOMS],
     states: &mut [u8; Program::ROOMS * Program::STACK],
     maps: &mut [u8; Program::ROOMS * Program::STACK * Program::EVENTS],
@@ -70,36 +67,34 @@ pub fn call_on<'a>(
     n: u8,
     events: usize,
 ) -> Outcome
-    requires { CallAsked says.now stmts.now kinds.now entries.now flags.now k events depths.old states.old maps.old counts.old parts.old held.old }
-    ensures { CallLeaves says.now stmts.now kinds.now entries.now flags.now k n events depths.old states.old maps.old counts.old parts.old held.old result depths.new states.new maps.new counts.new parts.new held.new }
+    requires { CallAsked says.now program.now.stmts program.now.state_of program.now.state_entry program.now.defers k events depths.old states.old maps.old counts.old parts.old held.old }
+    ensures { CallLeaves says.now program.now.stmts program.now.state_of program.now.state_entry program.now.defers k n events depths.old states.old maps.old counts.old parts.old held.old result depths.new states.new maps.new counts.new parts.new held.new }
 {
     let d = depths[k];
     if Program::STACK <= d {
-        return Outcome::Refused(Answer::StackFull);
+        return Err(Answer::StackFull);
     }
-    let e = entry_of(kinds, entries, n as usize);
-    call_frame(says, kinds, flags, depths, states, maps, k, n, events);
-    begin(stmts, counts, parts, held, k, e);
-    Outcome::Took(Rule::CALL)
+    let e = entry_of(&program.state_of, &program.state_entry, usize::from(n));
+    call_frame(program, says, depths, states, maps, k, n, events);
+    begin(&program.stmts, counts, parts, held, k, e);
+    Ok(Rule::CALL)
 }
 
 // ACTION: action a's statement.
-pub fn action_on<'a>(
-    stmts: &[u16; 5 * (Program::STATEMENTS + 1)],
-    owners: &'a [u8; Program::ACTIONS + 1],
-    bodies: &'a [u16; Program::ACTIONS + 1],
+pub fn action_on(
+    program: &Program,
     counts: &mut [usize; Program::ROOMS],
     parts: &mut [u16; Program::ROOMS * Program::ROW],
     held: &mut [u64; Program::ROOMS],
     k: usize,
     a: u8,
 ) -> Outcome
-    requires { ActionAsked stmts.now owners.now bodies.now k counts.old parts.old held.old }
-    ensures { ActionLeaves stmts.now owners.now bodies.now k a counts.old parts.old held.old result counts.new parts.new held.new }
+    requires { ActionAsked program.now.stmts program.now.action_of program.now.action_body k counts.old parts.old held.old }
+    ensures { ActionLeaves program.now.stmts program.now.action_of program.now.action_body k a counts.old parts.old held.old result counts.new parts.new held.new }
 {
-    let b = body_of(owners, bodies, a as usize);
-    begin(stmts, counts, parts, held, k, b);
-    Outcome::Took(Rule::ACTION)
+    let b = body_of(&program.action_of, &program.action_body, usize::from(a));
+    begin(&program.stmts, counts, parts, held, k, b);
+    Ok(Rule::ACTION)
 }
 
 // POP1: the frame on top is popped, and the raise stays pending.
@@ -113,7 +108,7 @@ pub fn pop1_on(
     ensures { RaiseLeaves k depths.old states.old maps.old result depths.new states.new maps.new }
 {
     pop_frame(depths, states, maps, k);
-    Outcome::Took(Rule::POP1)
+    Ok(Rule::POP1)
 }
 
 // POP2: the frame on top is popped, and nothing is pending.
@@ -129,5 +124,5 @@ pub fn pop2_on(
 {
     pop_frame(depths, states, maps, k);
     held[k] = 0;
-    Outcome::Took(Rule::POP2)
+    Ok(Rule::POP2)
 }

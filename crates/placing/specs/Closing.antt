@@ -1,6 +1,6 @@
 -- The rows of the table: the one of a machine, the one of the least number, and what is known when a row is taken away.
-use Rattle.std.specs.Prelude.{ℕ, ◌+◌, ◌-◌, ◌≤◌, ◌<◌, ◌≡◌, refl, ◌≢◌, ◌⊎◌, Bool, true, false, List, [], eqb, get_or, set}
-use Rattle.std.proofs.Common.{sym, ap, ◌∙◌, inl, inr, arith, below_more, eqb-true, length-set, get_or-set_same, get_or-set_other}
+use Rattle.std.specs.Prelude.{ℕ, ◌+◌, ◌-◌, ◌≤◌, ◌<◌, ◌≡◌, refl, ◌≢◌, ◌⊎◌, Bool, true, false, List, [], eqb, get_or, set, Option, Some, None, is_some}
+use Rattle.std.proofs.Common.{true≢false, sym, ap, ◌∙◌, inl, inr, arith, below_more, eqb-true, length-set, get_or-set_same, get_or-set_other}
 use Rattle.std.proofs.lemmas.Bool.{eqb-false}
 use Rattle.regrouping.specs.Regrouped.{mine, others}
 use Rattle.placing.specs.Placed.{owner}
@@ -13,6 +13,21 @@ pub record Found (who : List ℕ) (used k s : ℕ) : Type 0 where
   pub within : s ≤ used
   pub others_before : (t : ℕ) → t < s → get_or who t 0 ≢ k
   pub here : s < used → get_or who s 0 ≡ k
+
+-- what is found of it: its row, or none
+abbrev pub FoundRow : List ℕ → ℕ → ℕ → Option ℕ → Type 0
+FoundRow who used k (Some s) = (s < used) × Found who used k s
+FoundRow who used k None = Found who used k used
+
+-- none is found: no row is the machine's
+pub none_found : (who : List ℕ) (used k : ℕ) (o : Option ℕ) → is_some o ≡ false → FoundRow who used k o → (s : ℕ) → s < used → get_or who s 0 ≢ k
+none_found who used k None e f = f.others_before
+none_found who used k (Some x) e f = absurd (true≢false e)
+
+-- one is found: it is the machine's
+pub some_found : (who : List ℕ) (used k : ℕ) (o : Option ℕ) → is_some o ≡ true → FoundRow who used k o → (s : ℕ) × ((s < used) × (get_or who s 0 ≡ k))
+some_found who used k None e f = absurd (true≢false (sym e))
+some_found who used k (Some x) e f = (x, (f.0, f.1.here f.0))
 
 -- the row of the machine with the least number
 pub record Lowest (who : List ℕ) (used s : ℕ) : Type 0 where

@@ -1,37 +1,35 @@
 // One line's row put into the tables of a program, behind the rows that are there. A function is lent the arrays that it touches; what is asked of them, and
 // what the tables are, stands in specs/Asked.antt and crates/tabled; what the stores make of an array in specs/Stored.antt, and of the table of some lines in
 // specs/More.antt. The flags of a state and the pairs of a `new` are put elsewhere: specs/Flags.antt and specs/Pool.antt say what they make of their tables.
+// stays: the C interface: the tables lie so, with a number for a type and for a kind of row, and how many rows there are in the first place
+// stays: no heap, fixed memory: put_move and put_choice are told the n rows that are there, since these two tables have no place for it
 #![tactic(auto)]
 
 ghost use Rattle.std.specs.Prelude.{◌≡◌, ◌+◌, ◌*◌, ◌<◌, set};
 ghost use Rattle.programs.specs.Sizes.{SPENT};
-ghost use Rattle.tabled.specs.Tabled.{byte_of, word_of};
+ghost use Rattle.tabled.specs.Tabled.{byte_of};
 ghost use Rattle.putting.specs.Asked.{EventRoom, VariableRoom, ExprRoom, StmtRoom, ActionRoom, StateRoom, MoveRoom, ChoiceRoom};
 ghost use Rattle.putting.specs.Stored.{more, one_stored, three_stored, five_stored};
 
 use tables::Program;
 
 // A number in a word of 8 bits: one that is too large is the largest.
+// stays: no plainer: tables::byte cuts 16 bits, this one 32, and each is one line
 pub fn byte_of(n: u32) -> u8
     ensures { result ≡ byte_of n }
 {
-    if n <= 255 { n as u8 } else { 255 }
+    u8::try_from(n).unwrap_or(u8::MAX)
 }
 
-// A number in a word of 16 bits.
-pub fn word_of(n: u32) -> u16
-    ensures { result ≡ word_of n }
-{
-    if n <= 65535 { n as u16 } else { 65535 }
-}
-
+// stays: no plainer: the functions that put one more row differ in the word, the columns and the companions of their table, and one for all would be handed each of them
 // One more event, whose payload has the type at t.
+#[tactic(auto, using(crate::specs::More::event_room))]
 pub fn put_event(types: &mut [u8; Program::EVENTS + 1], t: u8)
     requires { EventRoom types.old }
     ensures { types.new ≡ one_stored types.old t }
 {
     let e = types[0] + 1;
-    types[e as usize] = t;
+    types[usize::from(e)] = t;
     types[0] = e;
 }
 
@@ -47,12 +45,13 @@ pub fn put_variable(
     ensures types_after { types.new ≡ set types.old (more kinds.old) t }
 {
     let x = kinds[0] + 1;
-    kinds[x as usize] = k;
-    types[x as usize] = t;
+    kinds[usize::from(x)] = k;
+    types[usize::from(x)] = t;
     kinds[0] = x;
 }
 
 // One more expression, whose row is k, x, y.
+#[tactic(auto, using(crate::specs::More::expr_room))]
 pub fn put_expr(exprs: &mut [u32; 3 * (Program::EXPRESSIONS + 1)], k: u32, x: u32, y: u32)
     requires { ExprRoom exprs.old }
     ensures { exprs.new ≡ three_stored exprs.old k x y }
@@ -66,6 +65,7 @@ pub fn put_expr(exprs: &mut [u32; 3 * (Program::EXPRESSIONS + 1)], k: u32, x: u3
 }
 
 // One more statement, whose row is k, x, y, z, n; a `new` has for z how many pairs there are before its own.
+#[tactic(auto, using(crate::specs::More::stmt_room))]
 pub fn put_stmt(
     stmts: &mut [u16; 5 * (Program::STATEMENTS + 1)],
     k: u16,
@@ -78,7 +78,7 @@ pub fn put_stmt(
     ensures { stmts.new ≡ five_stored stmts.old k x y z n }
 {
     let s = stmts[0] + 1;
-    let row = 5 * (s as usize);
+    let row = 5 * usize::from(s);
     stmts[row] = k;
     stmts[row + 1] = x;
     stmts[row + 2] = y;
@@ -99,8 +99,8 @@ pub fn put_action(
     ensures bodies_after { bodies.new ≡ set bodies.old (more kinds.old) b }
 {
     let a = kinds[0] + 1;
-    kinds[a as usize] = k;
-    bodies[a as usize] = b;
+    kinds[usize::from(a)] = k;
+    bodies[usize::from(a)] = b;
     kinds[0] = a;
 }
 
@@ -119,9 +119,9 @@ pub fn put_state(
     ensures exits_after { exits.new ≡ set exits.old (more kinds.old) exit }
 {
     let n = kinds[0] + 1;
-    kinds[n as usize] = k;
-    entries[n as usize] = entry;
-    exits[n as usize] = exit;
+    kinds[usize::from(n)] = k;
+    entries[usize::from(n)] = entry;
+    exits[usize::from(n)] = exit;
     kinds[0] = n;
 }
 
@@ -142,5 +142,5 @@ pub fn put_choice(choices: &mut [u32; Program::CHOICES], n: usize, machine: u32,
     requires machine_bound { machine < SPENT }
     ensures { choices.new ≡ set choices.old n (machine * 256 + bits) }
 {
-    choices[n] = machine * 256 + bits as u32;
+    choices[n] = machine * 256 + u32::from(bits);
 }

@@ -15,7 +15,8 @@ use Rattle.machines.specs.Queue.{same, waits, put, pull}
 use Rattle.machines.specs.Equal.{same_equal, same_self}
 use Rattle.codes.specs.Pairs.{pair_event, CanonicalPair, pairs_tell}
 use Rattle.configs.specs.Decode.{pair_of, machine_of}
-use Rattle.configs.specs.Flat.{Flat, room_at}
+use Rattle.configs.specs.declared.Flat.{Flat}
+use Rattle.configs.specs.Flat.{room_at}
 use Rattle.queues.specs.Queues.{queue_at, put_number}
 
 -- the queue of the machine in room i

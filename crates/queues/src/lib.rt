@@ -1,4 +1,6 @@
 // A room's queue in the flat arrays: a pair put to its end, one taken out, and whether one would go in. A pair is its number, 16 places a room.
+// stays: no plainer: these functions are lent the arrays that they touch, so that no contract need say that the others stay
+// stays: may not change: QueueOk and Put, which speak of a count beside the places of all rooms' pairs
 #![tactic(auto)]
 
 ghost use Rattle.std.specs.Prelude.{◌≡◌, ◌+◌, ◌≤◌, ◌<◌, eqb, length, get_or};
@@ -13,17 +15,11 @@ pub fn holds(pairs: &[u64; Program::ROOMS * Program::QUEUE], row: usize, n: usiz
     requires { (length pairs.now ≡ 512) × (row + n ≤ 512) }
     ensures { result ≡ any (eqb x) (part row n pairs.now) }
 {
-    let mut k: usize = 0;
-    while k < n {
-        if pairs[row + k] == x {
-            return true;
-        }
-        k += 1;
-    }
-    false
+    pairs[row..row + n].contains(&x)
 }
 
 // Whether x can be put to room i's queue: it waits already, or there is a place.
+// stays: may not change: docs/CONTRACTS.md promises it, to callers that ask before they put
 pub fn room_for(
     pairs: &[u64; Program::ROOMS * Program::QUEUE],
     waiting: &[usize; Program::ROOMS],
@@ -34,13 +30,11 @@ pub fn room_for(
     ensures { result ≡ is_some (put_number (queue_at pairs.now waiting.now i) x) }
 {
     let n = waiting[i];
-    if holds(pairs, i * Program::QUEUE, n, x) {
-        return true;
-    }
-    n < Program::QUEUE
+    holds(pairs, i * Program::QUEUE, n, x) || n < Program::QUEUE
 }
 
 // Room i's queue ⊙ x; false where it is full, and then nothing is changed.
+// stays: may not change: Put, in which true says that the pair waits
 pub fn put_on(
     pairs: &mut [u64; Program::ROOMS * Program::QUEUE],
     waiting: &mut [usize; Program::ROOMS],
@@ -75,12 +69,7 @@ pub fn remove_on(
 {
     let row = i * Program::QUEUE;
     let last = waiting[i] - 1;
-    let mut j = k;
-    while j < last {
-        let x = pairs[row + (j + 1)];
-        pairs[row + j] = x;
-        j += 1;
-    }
+    pairs.copy_within(row + (k + 1)..row + (last + 1), row + k);
     pairs[row + last] = 0;
     waiting[i] = last;
 }

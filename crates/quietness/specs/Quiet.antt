@@ -1,7 +1,8 @@
 -- Answer 7 as a table tells it: "an exit with raise, return or leave anywhere inside". The table has a mark at each statement that is not quiet.
-use Rattle.std.specs.Prelude.{ℕ, ◌+◌, ◌*◌, ◌≤◌, ◌<◌, ◌≡◌, Bool, false, cond, ◌&&◌, List, eqb, ltb, length, get_or, set}
+use Rattle.std.specs.Borrow.{Bor}
+use Rattle.std.specs.Prelude.{ℕ, suc, ◌+◌, ◌*◌, ◌≤◌, ◌<◌, ◌≡◌, Bool, false, cond, ◌&&◌, List, eqb, ltb, length, get_or, set, replicate}
 use Rattle.std.proofs.Math.Path.{refl, ap, fun_ext}
-use Rattle.std.proofs.Common.{sym, ◌∙◌, arith, lt-ltb, le-ltb, length-set, get_or-set_same, get_or-set_other}
+use Rattle.std.proofs.Common.{sym, ◌∙◌, add-one, arith, lt-ltb, le-ltb, length-set, get_or-set_same, get_or-set_other}
 use Rattle.std.proofs.Math.Bool.{true}
 use Rattle.std.proofs.Math.Logic.{⊎_elim, dite}
 use Rattle.std.proofs.Math.Decide.{ℕ_discrete}
@@ -9,7 +10,8 @@ use Rattle.std.proofs.Math.ListN.{get_or-eq_default}
 use Rattle.lists.specs.Lists.{at, all, There}
 use Rattle.lists.specs.Facts.{and_true}
 use Rattle.lists.specs.Down.{below, downward, below_is}
-use Rattle.rows.specs.Pad.{below?}
+use Rattle.std.proofs.lemmas.List.{length-replicate}
+use Rattle.rows.specs.Pad.{below?, zeros_get}
 use Rattle.programs.specs.Sizes.{KINDS, EVENTS, VARIABLES, EXPRS, STMTS, ACTIONS, STATES}
 use Rattle.programs.specs.Program.{Program, State, skip, stmt_at}
 use Rattle.tables.specs.declared.Program.{Program as Tables}
@@ -27,6 +29,7 @@ use Rattle.marks.specs.declared.Inner.{Inner}
 use Rattle.marks.specs.declared.Inner.TheVariants.{Nothing, One, Two}
 use Rattle.marks.specs.Marks.{Stated, stated_program}
 use Rattle.marks.specs.Inner.{listed, head_parts, parts_in, parts_are}
+use Rattle.marks.specs.Climbs.{Climbs, climbs_keep}
 use Rattle.marks.specs.Tall.{below_past}
 
 -- p is a program with these events, kinds, variables, expressions, statements, actions and states
@@ -40,8 +43,12 @@ pub record ToldStates (types : List ℕ) (kinds : ℕ) (variable_of exprs stmts 
   pub flags : List ℕ
   pub same_states : p.states ≡ states_of state_of entries exits flags
 
+-- so, by the code's tables
+abbrev pub TellsStates : Program → Tables → Type 0
+TellsStates p q = ToldStates q.event_types q.kinds q.variable_of q.exprs q.stmts q.action_of q.state_of q.state_exit p
+
 -- LAW FOR CALLERS: so is the program that the tables are
-pub told_states_program : (q : Tables) → ToldStates q.event_types q.kinds q.variable_of q.exprs q.stmts q.action_of q.state_of q.state_exit (program_of q)
+pub told_states_program : (q : Tables) → TellsStates (program_of q) q
 told_states_program q = record {
   fronted = fronted_program q;
   same_exprs = refl;
@@ -151,6 +158,13 @@ module _ (stmts : List ℕ) (i : ℕ) (loud : List ℕ) (told : Hushing stmts i 
         (λ q. rw (get_or-set_other loud i m y 0 q) (told.done m (omega arith)));
     rest = λ m h. get_or-set_other loud i m y 0 (λ q. omega arith) ∙ told.rest m (omega arith);
   }
+
+-- so after n turns, where what is worked out for a statement is 0 exactly where it is quiet
+pub quiet_up : (stmts : List ℕ) (said : Bor (List ℕ) → ℕ → ℕ → Type 0) → ((k : Bor (List ℕ)) (m y : ℕ) → said k m y → eqb y 0 ≡ quiet_here stmts k.now m) → (n : ℕ) → n ≤ 1024
+    → (l : List ℕ) → Climbs said (replicate 1025 0) n l → Hushing stmts (n + 1) l
+quiet_up stmts said told n fits l h = rw add-one (climbs_keep said (λ m k. Hushing stmts (suc m) k) (replicate 1025 0)
+    (quiet_first stmts _ (length-replicate {A = ℕ} 1025 0) (zeros_get 0 1025)) n
+    (λ m k y b c s. rw (← add-one) (quiet_more stmts (suc m) k.now c (omega arith) y (told k (suc m) y s))) l h)
 
 -- all statements have their marks
 pub record Loud (stmts loud : List ℕ) : Type 0 where

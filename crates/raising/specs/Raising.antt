@@ -1,5 +1,5 @@
 -- RAISE: what it is asked of the lists that it is lent, and what it leaves, a law for each way out.
-use Rattle.std.specs.Prelude.{ℕ, ◌+◌, ◌*◌, ◌%◌, ◌≤◌, ◌≡◌, refl, Bool, true, false, List, [], ◌∷◌, length, set}
+use Rattle.std.specs.Prelude.{ℕ, ◌+◌, ◌*◌, ◌%◌, ◌≤◌, ◌≡◌, refl, Bool, true, false, List, [], ◌∷◌, length, set, Ok, Err}
 use Rattle.std.proofs.Common.{sym, ◌∙◌, arith}
 use Rattle.lists.specs.Lists.{All, There, at}
 use Rattle.answers.specs.declared.Answer.TheVariants.{WrongType}
@@ -23,7 +23,6 @@ use Rattle.index.specs.Index.{Says}
 use Rattle.maps.specs.Maps.{Asked, map_at, Tables}
 use Rattle.parts.specs.Parts.{Said, tidied}
 use Rattle.evaluation.specs.Evaluated.{REST, evaluated}
-use Rattle.engine.specs.declared.Outcome.TheVariants.{Took, Refused}
 use Rattle.engine.specs.Holding.{RowBecomes, touched, touched_then}
 use Rattle.stored.specs.Stated.{tables_said}
 use Rattle.stored.specs.Stored.{told_set, head_serves}
@@ -98,13 +97,13 @@ module _ {stmts exprs places says types kinds exits maps values : List ℕ} {k b
     suits_is = sym (rw (suited, of_type, ← a.events_are, reads, gives, test_value a.test))
 
     -- 15
-    pub raise_refused : ok ≡ false → StoredLeft a.test.row w (Refused WrongType) values counts parts held
+    pub raise_refused : ok ≡ false → StoredLeft a.test.row w (Err WrongType) values counts parts held
     raise_refused h = rw (suits_is ∙ h) (refl, stored_same a.test.row a.test.values_are)
 
     -- raised: s remains, msg has the number i, the pair the number j
     pub raise_left : {counts' parts' : List ℕ} (s i j : ℕ) → s ≡ exit_or_skip a.test.row.p n (map_at a.test.row.p b maps) e → i ≡ code_of (vevent e) → j ≡ e * 1099511627776 + v → ok ≡ true
         → RowBecomes k counts parts (Said stmts) (λ p r. tidied true p (s ∷ [])) counts' parts'
-        → StoredLeft a.test.row w (Took RAISE) (set (set values (k * 19 + 17) i) (k * 19 + 18) v) counts' parts' (set held k j)
+        → StoredLeft a.test.row w (Ok RAISE) (set (set values (k * 19 + 17) i) (k * 19 + 18) v) counts' parts' (set held k j)
     raise_left s i j exit msg pair h c =
         let r = a.test.row in
         let q : v ≡ code_of value = gives ∙ test_code a.test in

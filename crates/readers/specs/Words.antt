@@ -1,7 +1,9 @@
 -- A word of a line: the bytes up to a space (32), an LF (10) or the end. And its laws, as a loop over the places of a text uses them.
-use Rattle.std.specs.Prelude.{ℕ, ◌+◌, ◌-◌, ◌≤◌, ◌<◌, ◌≡◌, refl, List, [], ◌∷◌, Bool, true, false, cond, eqb, length, drop, take, get_or}
+use Rattle.std.specs.Prelude.{ℕ, suc, ◌+◌, ◌-◌, ◌≤◌, ◌<◌, ◌≡◌, refl, List, [], ◌∷◌, Bool, true, false, cond, not, ◌||◌, eqb, nat_lt, length, drop, take, get_or, Option, Some, None, unwrap_or, position}
+use Rattle.std.specs.List.{position_or_len}
 use Rattle.std.proofs.Common.{ap, ◌∙◌, add-one, arith, drop_of_length-le, drop-cons}
-use borrow.Author.Tests.{eq-eqb, ne_eqb}
+use borrow.Author.Tests.{eq-eqb, ne_eqb, ltb-false}
+use Rattle.std.proofs.lemmas.List.Sums.{prefix_len-le-length}
 
 -- the bytes up to a space, an LF or the end
 unfoldable pub word : List ℕ → List ℕ
@@ -64,3 +66,27 @@ parted s at e h = ap (λ (k : ℕ). take k (drop at s)) (let a : e - at ≡ leng
 pub empty : (d : List ℕ) → length d ≡ 0 → d ≡ []
 empty [] h = refl
 empty (b ∷ d) h = absurd (omega arith)
+
+-- A WORD BY THE LIBRARY'S `position`
+-- a space or an LF
+abbrev pub gap : ℕ → Bool
+gap b = eqb b 32 || eqb b 10
+
+-- what stands in front of the first, or all, is the word
+pub word_front : (s : List ℕ) → take (position_or_len gap s) s ≡ word s
+unfolding word
+word_front [] = refl
+word_front (b ∷ s) = go (eqb b 32) (eqb b 10) (word_front s)
+  where
+    go : (p q : Bool) → take (position_or_len gap s) s ≡ word s → take (cond (not (p || q)) (1 + position_or_len gap s) 0) (b ∷ s) ≡ cond p [] (cond q [] (b ∷ word s))
+    go true q h = refl
+    go false true h = refl
+    go false false h = let z : 1 + position_or_len gap s ≡ suc (position_or_len gap s) = omega arith in rw z (ap (λ (l : List ℕ). b ∷ l) h)
+
+-- o is what `position` finds
+pub word_found : (s : List ℕ) (o : Option ℕ) → o ≡ position gap s → take (unwrap_or o (length s)) s ≡ word s
+word_found s o h = rw h (ap (λ (k : ℕ). take k s) (go (nat_lt (position_or_len gap s) (length s)) refl) ∙ word_front s)
+  where
+    go : (t : Bool) → nat_lt (position_or_len gap s) (length s) ≡ t → unwrap_or (cond t (Some (position_or_len gap s)) None) (length s) ≡ position_or_len gap s
+    go true e = refl
+    go false e = omega (arith, ltb-false _ _ e, prefix_len-le-length (λ b. not (gap b)) s)

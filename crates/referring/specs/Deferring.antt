@@ -1,20 +1,22 @@
 -- The events that a state defers are there exactly where no flag behind the last event is set.
-use Rattle.std.specs.Prelude.{ℕ, ◌+◌, ◌≤◌, ◌<◌, ◌≡◌, false, List}
-use Rattle.std.proofs.Common.{sym, ◌∙◌, true≢false, arith}
+use Rattle.std.specs.Prelude.{ℕ, ◌+◌, ◌-◌, ◌*◌, ◌≤◌, ◌<◌, ◌≡◌, Bool, false, not, List, eqb, get_or}
+use Rattle.std.proofs.Common.{refl, ap, sym, ◌∙◌, true≢false, arith}
 use Rattle.std.proofs.Math.Bool.{true}
 use Rattle.std.proofs.Math.Logic.{⊎_elim, dite}
 use Rattle.std.proofs.Math.Decide.{ℕ_discrete}
-use Rattle.lists.specs.Lists.{There}
+use Rattle.lists.specs.Lists.{at, There}
 use Rattle.lists.specs.Facts.{All-has, All-zip}
 use Rattle.lists.specs.Keep.{All-keep, All-kept}
 use Rattle.lists.specs.Check.{within, each, each_all, all_each}
 use Rattle.rows.specs.Pad.{below?}
 use Rattle.rows.specs.Seek.{table}
-use Rattle.programs.specs.Sizes.{EVENTS}
-use Rattle.tables.specs.Decode.{flag, defer_of}
-use Rattle.tables.specs.Numbered.{table_all}
+use Rattle.programs.specs.Sizes.{EVENTS, STATES}
+use Rattle.programs.specs.Program.{State}
+use Rattle.tables.specs.Decode.{count, flag, defer_of, no_state, state_in, states_of}
+use Rattle.tables.specs.Numbered.{table_all, at_row}
 use Rattle.tables.specs.Tables.{deferred_flag}
 use Rattle.faults.specs.Each.{fails}
+use Rattle.faults.specs.Ranges.{EachOf}
 
 module _ (flags : List ℕ) (n events : ℕ) where
   -- no event that is not there has its flag set: what a loop over the flags keeps, up to event e
@@ -39,3 +41,15 @@ module _ (flags : List ℕ) (n events : ℕ) where
   pub defer_fails : (e : ℕ) → events < e → e ≤ EVENTS → flag flags n e ≡ true → (each (within events) (defer_of flags n)).test ≡ false
   defer_fails e h k f = fails (each (within events) (defer_of flags n))
       (λ q. let t = All-has e (There events) (defer_of flags n) (deferred_flag flags n e (omega arith) k ∙ f) (each_all (within events) (defer_of flags n) q) in omega (arith, t.1))
+
+  -- each flag behind the last event that is there is told by whether it is not set
+  pub defers_told : (r : Bool) → EachOf (λ e b. b ≡ eqb (get_or flags (n * (EVENTS + 1) + (e + 1)) 0) 0) events EVENTS r → r ≡ (each (within events) (defer_of flags n)).test
+  defers_told true h = sym (defer_passes (λ i low high.
+      let z : i - 1 + 1 ≡ i = omega arith in
+      ap not (rw z at (sym (h (i - 1) (omega arith) (omega arith))))))
+  defers_told false h = sym (defer_fails (h.0 + 1) (omega (arith, h.1)) (omega (arith, h.2)) (ap not (sym h.3)))
+
+-- what state n of a table defers
+pub deferred : (states entries exits flags : List ℕ) (n : ℕ) → 1 ≤ n → n ≤ count STATES states → (at no_state (states_of states entries exits flags) n).defer ≡ defer_of flags n
+unfolding states_of
+deferred states entries exits flags n h k = ap (λ (q : State). q.defer) (at_row (state_in states entries exits flags) no_state refl h k)

@@ -14,10 +14,10 @@ use Rattle.choices.specs.Choices.{choice_word}
 use Rattle.public.specs.Public.{Wrote as Regrouped, listed}
 use Rattle.outputs.specs.Programs.{refusal, choice_line, regroup_program}
 use Rattle.outputs.specs.Lengths.{answer_length}
-use Rattle.tabled.specs.declared.Loaded.{Loaded}
+use Rattle.tabled.specs.Tabled.{Loaded}
 use Rattle.tabled.specs.Tabled.{load_of}
 use Rattle.handed_runs.specs.HandedRuns.{regroup_of, numbers_of, fronted}
-use Rattle.starting.specs.declared.Started.{Started}
+use Rattle.starting.specs.Started.{Started}
 use Rattle.starting.specs.Started.{start_of}
 use Rattle.handed_out.specs.HandedOut.{Loads, few, count_is}
 use Rattle.handed_out.specs.Called.{loads, words, starts}
@@ -86,7 +86,7 @@ module _ (t : List ℕ) {x : Loaded} (e : x ≡ load_of t) where
             go (some m) q f = (m, q)
 
         -- the answer is 0,
-        done_as : a ≡ Done
+        pub done_as : a ≡ Done
         done_as = answer_as ∙ rw there.1
 
         -- it stands in the row,
@@ -104,6 +104,10 @@ module _ (t : List ℕ) {x : Loaded} (e : x ≡ load_of t) where
             let n : x.count ≤ CHOICES = rw e (omega (arith, few t text, count_is t text)) in
             rw row_as (omega (arith, length-replicate {A = ℕ} CHOICES 0, count_as, n, length-append xs (drop (length xs) no_list), length-drop (length xs) no_list))
 
+        -- the list is within it
+        pub list_within : x.count ≤ length list
+        list_within = omega (arith, list_length, rw (sym e) at (count_is t text), few t text)
+
         -- THE CHOICE LINES are the definition's,
         rows_as : choice_rows (take x.count list) ≡ flat choice_line there.0
         rows_as =
@@ -118,11 +122,12 @@ module _ (t : List ℕ) {x : Loaded} (e : x ≡ load_of t) where
           whole_room = record { fits = omega (arith, size, all_fits t text there.0 there.1) }
 
           -- and so have they
+          pub choices_room : Room (choice_rows (take x.count list)) 0 out
+          choices_room = rw rows_as (room_first _ (answer_line Done) whole_room)
+
+          -- as they are of the row for the list
           pub choices_asked : ChoicesAsked list x.count 0 out
-          choices_asked = record {
-            chosen = omega (arith, list_length, rw (sym e) at (count_is t text), few t text);
-            room = rw rows_as (room_first _ (answer_line Done) whole_room);
-          }
+          choices_asked = record { chosen = list_within; room = choices_room }
 
           module _ {place : ℕ} {between : List ℕ} (told : Wrote (choice_rows (take x.count list)) 0 out place between) where
             -- THE ANSWER has room,

@@ -6,6 +6,8 @@ ghost use Rattle.std.specs.Prelude.{◌≡◌, length};
 ghost use Rattle.outputs.specs.Programs.{regroup_program};
 ghost use Rattle.handed_runs.specs.HandedRuns.{fronted};
 
+use answers::Answer;
+use handed_out::TextStart;
 use tables::Program;
 use telling::OUTPUT;
 
@@ -13,21 +15,18 @@ use telling::OUTPUT;
 pub fn regroup_text(text: &[u8], out: &mut [u8; OUTPUT]) -> usize
     ensures { (result ≡ length (regroup_program text.now)) × (out.new ≡ fronted (regroup_program text.now) out.old) }
 {
-    let loaded = loading::load(text);
-    let answer = loaded.answer;
-    if numbers::number(answer) != 0 {
-        return output_lines::write_refusal(out, 0, answer, loaded.line);
-    }
-    let program = loaded.program;
-    let choices = loaded.choices;
-    let count = loaded.count;
-    let started = starting::start(program);
-    let config = started.config;
+    let TextStart { loaded, config } = match handed_out::start_text(text) {
+        Ok(start) => start,
+        Err(refusal) => {
+            return output_lines::write_refusal(out, 0, refusal.answer, refusal.line);
+        }
+    };
+    let choices = &loaded.choices[..loaded.count];
     let mut list: [u32; Program::CHOICES] = [0; Program::CHOICES];
-    let grouped = grouping::regroup(program, config, &choices[..count], &mut list);
-    if numbers::number(grouped) != 0 {
-        return output_lines::write_answer(out, 0, grouped);
+    if let Err(answer) = grouping::regroup(loaded.program, config, choices, &mut list) {
+        return output_lines::write_answer(out, 0, answer);
     }
-    let place = telling::tell_choices(out, 0, &list, count);
-    output_lines::write_answer(out, place, grouped)
+    let regrouped = &list[..loaded.count];
+    let place = telling::tell_choices(out, 0, regrouped);
+    output_lines::write_answer(out, place, Answer::Done)
 }

@@ -19,7 +19,8 @@ use Rattle.configs.specs.Decode.{pending_of}
 use Rattle.configs.specs.Encode.{held_code, taken}
 use Rattle.configs.specs.Reversed.{down_to_reverse, down_to_length, down_to_at}
 use Rattle.configs.proofs.RoundTrip.{pending_back}
-use Rattle.configs.specs.Flat.{Flat, Sized, room_at, room_path}
+use Rattle.configs.specs.declared.Flat.{Flat}
+use Rattle.configs.specs.Flat.{Sized, room_at, room_path}
 use Rattle.parts.specs.Parts.{row_at, Said, tidied, awaits, awaits_held, lone_awaits}
 use Rattle.engine.specs.Engine.{Stands, Changed}
 use Rattle.engine.specs.Holding.{Elsewhere, RowHeld, RowBecomes, other_row, other_place, untouched, touched_place}

@@ -136,11 +136,11 @@ and_then {f = f} a b = record {
 
 -- WHAT EACH FUNCTION LEAVES, and what is asked of tidy on the way
 -- the head finished
-pub finish_left : (k : ℕ) (counts parts : List ℕ) (w : Bool) (m : ℕ) (parts' : List ℕ) → Headed k counts parts → Becomes (k * 33) (get_or counts k 0) parts Any (finished w) m parts'
+pub finish_left : {k : ℕ} {counts parts : List ℕ} (w : Bool) {m : ℕ} {parts' : List ℕ} → Headed k counts parts → Becomes (k * 33) (get_or counts k 0) parts Any (finished w) m parts'
     → RowBecomes k counts parts Any (λ p r. tidied w p (0 ∷ drop 1 r)) (set counts k m) parts'
-finish_left k counts parts w m parts' h c = counted h.standing (head_finished w h.some c)
+finish_left w h c = counted h.standing (head_finished w h.some c)
 
-module _ (stmts : List ℕ) (k : ℕ) (counts parts : List ℕ) (a : ℕ) where
+module _ {stmts : List ℕ} {k : ℕ} {counts parts : List ℕ} {a : ℕ} where
   -- another head
   module _ (h : Headed k counts parts) (at : Placing stmts k counts parts a (get_or counts k 0 - 1)) where
     -- its place is the last one
@@ -182,7 +182,7 @@ module _ (stmts : List ℕ) (k : ℕ) (counts parts : List ℕ) (a : ℕ) where
     push_left w m parts' c = counted at.standing (becomes_then (for_some (head_pushed (k * 33) (get_or counts k 0) a parts at.standing.row push_fits)) c)
 
 -- one less
-module _ (stmts : List ℕ) (k : ℕ) (counts parts : List ℕ) (at : Dropping stmts k counts parts) where
+module _ {stmts : List ℕ} {k : ℕ} {counts parts : List ℕ} (at : Dropping stmts k counts parts) where
   -- the head's place is the last one
   top : get_or counts k 0 - 1 + 1 ≡ get_or counts k 0
   top = omega (arith, at.headed.some)
@@ -233,14 +233,14 @@ row_cleared b n xs row = record {
         (below? j n)
 
 -- what the loop leaves that stores the zeros
-pub clear_left : (k : ℕ) (counts parts₀ parts : List ℕ) → Standing k counts parts₀ → parts ≡ put (k * 33) (replicate (get_or counts k 0) 0) parts₀
+pub clear_left : {k : ℕ} {counts parts₀ parts : List ℕ} → Standing k counts parts₀ → parts ≡ put (k * 33) (replicate (get_or counts k 0) 0) parts₀
     → RowBecomes k counts parts₀ Any (λ p r. []) (set counts k 0) parts
-clear_left k counts parts₀ parts s e = rw e (counted s (row_cleared (k * 33) (get_or counts k 0) parts₀ s.row))
+clear_left {k} {counts} {parts₀} s e = rw e (counted s (row_cleared (k * 33) (get_or counts k 0) parts₀ s.row))
 
 -- what is asked of the push after it
-pub cleared : (stmts : List ℕ) (k : ℕ) (counts parts counts' parts' : List ℕ) (a : ℕ) → Placing stmts k counts parts a 0 → RowBecomes k counts parts Any (λ p r. []) counts' parts'
+pub cleared : {stmts : List ℕ} {k : ℕ} {counts parts counts' parts' : List ℕ} {a : ℕ} → Placing stmts k counts parts a 0 → RowBecomes k counts parts Any (λ p r. []) counts' parts'
     → Placing stmts k counts' parts' a (get_or counts' k 0)
-cleared stmts k counts parts counts' parts' a at c = record { standing = standing held; program = at.program; said = at.said; low = rw none at.low }
+cleared {k = k} {counts = counts} {parts = parts} {counts' = counts'} {parts' = parts'} at c = record { standing = standing held; program = at.program; said = at.said; low = rw none at.low }
   where
     held : RowHeld k counts' parts' []
     held = c.becomes at.program tt _ (stands k counts parts at.standing)

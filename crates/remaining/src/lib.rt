@@ -1,5 +1,6 @@
 // A room's row of parts, by its count in all rooms' counts: what the rules do to its head. The functions of crates/parts work on the 33 places of the room;
 // these read and store the count, too.
+// stays: no plainer: these functions are lent the arrays that they touch, so that no contract need say that the others stay
 #![tactic(auto)]
 
 ghost use Rattle.std.specs.Prelude.{[], ◌∷◌, ◌-◌, get_or, drop};
@@ -19,9 +20,7 @@ pub fn finish_head(
     requires { Headed k counts.old parts.old }
     ensures { RowBecomes k counts.old parts.old Any (λ p r. tidied pending p (0 ∷ drop 1 r)) counts.new parts.new }
 {
-    let n = counts[k];
-    let m = parts::finish(parts, k * Program::ROW, n, pending);
-    counts[k] = m;
+    counts[k] = parts::finish(parts, k * Program::ROW, counts[k], pending);
 }
 
 // Statement a stands in the head's place.
@@ -38,10 +37,8 @@ pub fn replace_head(
 {
     let n = counts[k];
     let b = k * Program::ROW;
-    let last = n - 1;
-    parts[b + last] = a;
-    let m = parts::tidy(stmts, parts, b, n, pending);
-    counts[k] = m;
+    parts[b + (n - 1)] = a;
+    counts[k] = parts::tidy(stmts, parts, b, n, pending);
 }
 
 // Statement a stands before the row.
@@ -59,8 +56,7 @@ pub fn push_part(
     let n = counts[k];
     let b = k * Program::ROW;
     parts[b + n] = a;
-    let m = parts::tidy(stmts, parts, b, n + 1, pending);
-    counts[k] = m;
+    counts[k] = parts::tidy(stmts, parts, b, n + 1, pending);
 }
 
 // The head goes.
@@ -81,8 +77,7 @@ pub fn drop_head(
         counts[k] = 0;
         return;
     }
-    let m = parts::tidy(stmts, parts, b, last, pending);
-    counts[k] = m;
+    counts[k] = parts::tidy(stmts, parts, b, last, pending);
 }
 
 // No part is left.
@@ -96,11 +91,7 @@ pub fn clear_row(
 {
     let n = counts[k];
     let b = k * Program::ROW;
-    let mut i: usize = 0;
-    while i < n {
-        parts[b + i] = 0;
-        i += 1;
-    }
+    parts[b..b + n].fill(0);
     counts[k] = 0;
 }
 

@@ -1,5 +1,5 @@
 -- The definitions' rooms by their places: where machine i stands, what a change of it, its deletion and a creation are at that place.
-use Rattle.std.specs.Prelude.{ℕ, zero, suc, ◌≤◌, ◌<◌, ◌≡◌, refl, Bool, true, false, cond, List, [], ◌∷◌, map, eqb, length, get_or, set}
+use Rattle.std.specs.Prelude.{ℕ, zero, suc, ◌≤◌, ◌<◌, ◌≡◌, refl, Bool, true, false, cond, Option, Some, None, List, [], ◌∷◌, map, eqb, length, get_or, set}
 use Rattle.std.proofs.Common.{suc-le-suc, sym, ◌∙◌, le_of_suc-le-suc, not-suc-le-zero, zero-lt-suc, eqb-true, ne_eqb}
 use Rattle.std.proofs.Math.Option.{none, some, none-ne-some}
 use Rattle.lists.specs.Facts.{eqb_same}
@@ -13,6 +13,11 @@ pub record First (ids : List ℕ) (i r : ℕ) : Type 0 where
   pub inside : r ≤ 32
   pub here : r < 32 → get_or ids r 0 ≡ i
   pub before : (j : ℕ) → j < r → get_or ids j 0 ≡ i → ⊥
+
+-- what is found of it: the place, or none
+abbrev pub Found : List ℕ → ℕ → Option ℕ → Type 0
+Found ids i (Some r) = (r < 32) × First ids i r
+Found ids i None = First ids i 32
 
 -- FINDING
 -- where no place has machine i, none is found

@@ -20,8 +20,9 @@ use Rattle.acceptance.specs.Accepted.{RoomOk, MachineOk, Accepted}
 use Rattle.configs.specs.declared.Room.{Room}
 use Rattle.configs.specs.declared.Config.{Config as Held}
 use Rattle.configs.specs.Encode.{free, taken, room_code, written}
-use Rattle.configs.specs.Flat.{Flat, Sized, room_at, held}
-use Rattle.engine.specs.declared.Outcome.{Outcome}
+use Rattle.configs.specs.declared.Flat.{Flat}
+use Rattle.configs.specs.Flat.{Sized, room_at, held}
+use Rattle.engine.specs.Outcome.{Outcome}
 use Rattle.engine.specs.Engine.{Stands, Changed, Acted, Dequeued, Performed}
 use Rattle.machines.specs.RoomLaws.{each_twice}
 use Rattle.lists.specs.Keep.{map_set}

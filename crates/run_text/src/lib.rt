@@ -6,6 +6,7 @@ ghost use Rattle.std.specs.Prelude.{◌≡◌, length};
 ghost use Rattle.outputs.specs.Programs.{run_program};
 ghost use Rattle.handed_runs.specs.HandedRuns.{fronted};
 
+use handed_out::TextStart;
 use tables::Program;
 use telling::OUTPUT;
 
@@ -13,22 +14,18 @@ use telling::OUTPUT;
 pub fn run_text(text: &[u8], out: &mut [u8; OUTPUT]) -> usize
     ensures { (result ≡ length (run_program text.now)) × (out.new ≡ fronted (run_program text.now) out.old) }
 {
-    let loaded = loading::load(text);
-    let answer = loaded.answer;
-    if numbers::number(answer) != 0 {
-        return output_lines::write_refusal(out, 0, answer, loaded.line);
-    }
-    let program = loaded.program;
-    let choices = loaded.choices;
-    let count = loaded.count;
-    let started = starting::start(program);
-    let config = started.config;
+    let TextStart { loaded, config } = match handed_out::start_text(text) {
+        Ok(start) => start,
+        Err(refusal) => {
+            return output_lines::write_refusal(out, 0, refusal.answer, refusal.line);
+        }
+    };
+    let choices = &loaded.choices[..loaded.count];
     let mut rules: [u8; Program::CHOICES] = [0; Program::CHOICES];
-    let ran = running::run(program, config, &choices[..count], &mut rules);
+    let ran = running::run(loaded.program, config, choices, &mut rules);
     let end = ran.end;
-    let place = telling::tell_steps(out, 0, &choices, &rules, end.steps);
-    let last = ran.config;
-    let live = living::live_machines(last);
-    let ended = end.answer;
-    output_lines::write_ending(out, place, ended, end.steps, live)
+    let taken = &rules[..end.steps];
+    let place = telling::tell_steps(out, 0, choices, taken);
+    let live = living::live_machines(ran.config);
+    output_lines::write_ending(out, place, end.answer, end.steps, live)
 }

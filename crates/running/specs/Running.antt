@@ -20,7 +20,8 @@ use Rattle.tables.specs.declared.Program.{Program as Tables}
 use Rattle.tables.specs.Decode.{program_of}
 use Rattle.configs.specs.declared.Config.{Config as Held}
 use Rattle.configs.specs.Decode.{config_of}
-use Rattle.configs.specs.Flat.{Flat, Sized, held, flat_config}
+use Rattle.configs.specs.declared.Flat.{Flat}
+use Rattle.configs.specs.Flat.{Sized, held, flat_config}
 use Rattle.choices.specs.Choices.{choice_of, choices_of}
 use Rattle.labels.specs.Labels.{rule_number}
 use Rattle.handed.specs.Handed.{Fit, fit_is}

@@ -1,21 +1,20 @@
 -- What a scan gives as the code has it.
-use Rattle.std.specs.Prelude.{ℕ, ◌≤◌, ◌≡◌, true, false, List, length, drop}
-use Rattle.std.proofs.Math.Option.{Option, none, some}
+use Rattle.std.specs.Prelude.{ℕ, ◌≤◌, ◌≡◌, List, length, drop, Option, Some, None}
+use Rattle.std.proofs.Math.Option.{Option as Maybe, none, some}
 use Rattle.lists.specs.Lists.{keep}
 use Rattle.shapes.specs.Parts.{till}
 use Rattle.shapes.specs.Reads.{hole}
-use Rattle.shapes.specs.Scan.{takes, word_end, zeros}
+use Rattle.shapes.specs.Scan.{takes, word_end}
 use Rattle.scans.specs.declared.Taken.{Taken}
-use Rattle.scans.specs.declared.Fit.{Fit}
 
 -- the word at place i, and the hole c
 abbrev pub taken_at : ℕ → List ℕ → ℕ → Taken
 taken_at c s i = record { at = i; ok = takes c s i; end = word_end s i }
 
--- the places that a scan found
-abbrev pub fit_of : Option (List ℕ) → Fit
-fit_of none = record { fits = false; at = zeros }
-fit_of (some v) = record { fits = true; at = v }
+-- the places that a scan found, as the code has them
+abbrev pub fit_of : Maybe (List ℕ) → Option (List ℕ)
+fit_of none = None
+fit_of (some v) = Some v
 
 -- the holes of the form that begins at b of t
 abbrev pub holes_at : List ℕ → ℕ → List ℕ

@@ -1,5 +1,6 @@
 -- One turn of a scan, at place j of the form's text and place i of the line's.
-use Rattle.std.specs.Prelude.{ℕ, ◌+◌, ◌≤◌, ◌<◌, ◌≡◌, refl, List, length, drop, get_or, set}
+use Rattle.std.specs.Prelude.{ℕ, ◌+◌, ◌≤◌, ◌<◌, ◌≡◌, refl, Bool, cond, eqb, List, length, drop, get_or, set}
+use Rattle.std.specs.Bool.{then_some}
 use Rattle.std.proofs.Math.Path.{ap, sym}
 use Rattle.std.proofs.Common.{◌∙◌, arith, drop_of_length-le}
 use Rattle.std.proofs.Math.Option.{none, some}
@@ -9,7 +10,7 @@ use Rattle.readers.specs.Words.{drop_next}
 use Rattle.shapes.specs.Reads.{hole}
 use Rattle.shapes.specs.Scan.{takes, word_end, zeros, scan}
 use Rattle.scans.specs.declared.Taken.{Taken}
-use Rattle.scans.specs.Fits.{taken_at, holes_at}
+use Rattle.scans.specs.Fits.{taken_at, fit_of, holes_at}
 
 -- what is known before a turn: what is still to be scanned gives what the whole form gives, and there is room for the places
 pub record Scanning (t : List ℕ) (b : ℕ) (s : List ℕ) (a e j i n : ℕ) (v : List ℕ) : Type 0 where
@@ -36,6 +37,15 @@ module _ (t : List ℕ) (b : ℕ) (s : List ℕ) (a e j i n : ℕ) (v : List ℕ
     pub scan_longer : c ≡ 10 → (i ≡ e → ⊥) → scan (drop b t) s e a 0 zeros ≡ none
     unfolding scan
     scan_longer q f = sym w.same ∙ rw (drop_next t j h, is, eq-eqb c 10 q, ne_eqb i e f)
+
+    -- the form is at its end: the places, if the line is too
+    pub scan_ended : c ≡ 10 → fit_of (scan (drop b t) s e a 0 zeros) ≡ then_some (eqb i e) v
+    unfolding scan
+    scan_ended q = ap fit_of (sym w.same ∙ rw (drop_next t j h, is, eq-eqb c 10 q)) ∙ kept (eqb i e)
+      where
+        kept : (p : Bool) → fit_of (cond p (some v) none) ≡ then_some p v
+        kept true = refl
+        kept false = refl
 
     module _ (no : c ≡ 10 → ⊥) where
       -- a hole, and no value for it

@@ -1,19 +1,17 @@
 // A form scanned over a line of the text: whether the line is in the form, and the places of the values of its holes. The definitions stand in
 // crates/shapes/specs/Scan.antt and in specs/.
+// stays: may not change: scan and taken_at, which speak of the text and places in it: `at`, `b`, `a` and `e` here
 #![tactic(auto)]
 
 ghost use Rattle.std.specs.Prelude.{◌≡◌, true, [], ◌∷◌, drop};
-ghost use Rattle.std.proofs.Math.Option.{none};
 ghost use Rattle.lists.specs.Lists.{is_some};
 ghost use Rattle.texts.specs.Forms.{value_of};
-ghost use Rattle.texts.specs.Numbers.{decimal, signed};
 ghost use Rattle.shapes.specs.Reads.{hole};
 ghost use Rattle.shapes.specs.Scan.{zeros, scan};
 ghost use Rattle.scans.specs.Fits.{taken_at, fit_of, Fitting};
 
-use numerals::{Integer, Numeral};
-
 // A word and a hole of a form: where the word begins, whether it is a value for the hole, and where it ends.
+// stays: no plainer: where the word ends is said of a word that is no value too, so a Result would carry the same place on both sides
 #[derive(Clone, Copy)]
 pub struct Taken {
     pub at: usize,
@@ -21,74 +19,24 @@ pub struct Taken {
     pub end: usize,
 }
 
-// Whether a line is in a form, and the places of the values of its holes, in order.
-#[derive(Clone, Copy)]
-pub struct Fit {
-    pub fits: bool,
-    pub at: [usize; 5],
-}
-
-// A line that is not in the form.
-fn unfit() -> Fit
-    ensures { result ≡ fit_of none }
-{
-    Fit {
-        fits: false,
-        at: [0; 5],
-    }
-}
-
 // '#', '~', '@' or '%'.
 fn is_hole(c: u8) -> bool
     ensures { result ≡ hole c }
 {
-    if c == 35 {
-        return true;
-    }
-    if c == 126 {
-        return true;
-    }
-    if c == 64 {
-        return true;
-    }
-    c == 37
+    matches!(c, b'#' | b'~' | b'@' | b'%')
 }
 
-// Whether the bytes are a number.
-fn is_number(d: &[u8]) -> bool
-    ensures { result ≡ is_some (decimal d.now) }
-{
-    match numerals::decimal(d) {
-        Numeral::Not => false,
-        Numeral::Number(_) => true,
-    }
-}
-
-// Whether they are one that may have a minus.
-fn is_integer(d: &[u8]) -> bool
-    ensures { result ≡ is_some (signed d.now) }
-{
-    match numerals::signed(d) {
-        Integer::Not => false,
-        Integer::Is(_) => true,
-    }
-}
-
-// Whether they are a value for the hole c.
+// Whether the bytes are a value for the hole c.
 fn takes(c: u8, d: &[u8]) -> bool
     requires { hole c ≡ true }
     ensures { result ≡ is_some (value_of (c ∷ []) d.now) }
 {
-    if c == 35 {
-        return is_number(d);
+    match c {
+        b'#' => numerals::decimal(d).is_some(),
+        b'~' => numerals::signed(d).is_some(),
+        b'@' => listings::numbers_ok(d),
+        _ => listings::pairs_ok(d),
     }
-    if c == 126 {
-        return is_integer(d);
-    }
-    if c == 64 {
-        return listings::numbers_ok(d);
-    }
-    listings::pairs_ok(d)
 }
 
 // The word at a place, and the hole c.
@@ -107,50 +55,40 @@ fn known(s: &[u8], at: usize, c: u8, first: Taken) -> Taken
     requires { (hole c ≡ true) × (first ≡ taken_at 35 s.now first.at) }
     ensures { result ≡ taken_at c s.now at }
 {
-    if c == 35 {
-        if at == first.at {
-            return first;
-        }
+    if c == b'#' && at == first.at {
+        first
+    } else {
+        take(s, at, c)
     }
-    take(s, at, c)
 }
 
-// The form that begins at b of t, scanned over the line from a to e of s.
-pub fn scan(t: &[u8], b: usize, s: &[u8], a: usize, e: usize, first: Taken) -> Fit
+// The form that begins at b of t, scanned over the line from a to e of s: the places of the values of its holes, in order, where the line is in the form.
+pub fn scan(t: &[u8], b: usize, s: &[u8], a: usize, e: usize, first: Taken) -> Option<[usize; 5]>
     requires { Fitting t.now b s.now e first }
     ensures { result ≡ fit_of (scan (drop b t.now) s.now e a 0 zeros) }
 {
-    let mut j = b;
     let mut i = a;
+    // stays: no heap, fixed memory: the places, and how many there are so far
     let mut n: usize = 0;
     let mut at = [0usize; 5];
-    while j < t.len() {
-        let c = t[j];
-        j += 1;
-        if c == 10 {
-            if i == e {
-                return Fit { fits: true, at };
-            }
-            return unfit();
+    let form = t.get(b..)?;
+    for &c in form {
+        if c == b'\n' {
+            return (i == e).then_some(at);
         }
         if is_hole(c) {
             let w = known(s, i, c, first);
-            if w.ok {
-                at[n] = i;
-                n += 1;
-                i = w.end;
-            } else {
-                return unfit();
+            if !w.ok {
+                return None;
             }
-        } else {
-            if e <= i {
-                return unfit();
-            }
-            if s[i] != c {
-                return unfit();
-            }
+            at[n] = i;
+            n += 1;
+            i = w.end;
+        } else if i < e && s[i] == c {
             i += 1;
+        } else {
+            return None;
         }
     }
-    unfit()
+    None
 }

@@ -1,5 +1,5 @@
 -- What the functions of src/lib.rt are asked, and that what they leave is what the definitions have for a send.
-use Rattle.std.specs.Prelude.{ℕ, ◌+◌, ◌*◌, ◌/◌, ◌%◌, ◌^◌, ◌≤◌, ◌<◌, ◌≡◌, refl, Bool, true, false, not, List, [], ◌∷◌, eqb, get_or, drop}
+use Rattle.std.specs.Prelude.{ℕ, ◌+◌, ◌*◌, ◌/◌, ◌%◌, ◌^◌, ◌≤◌, ◌<◌, ◌≡◌, refl, Bool, true, false, not, List, [], ◌∷◌, eqb, get_or, drop, Ok, Err}
 use Rattle.std.proofs.Common.{sym, ap, ◌∙◌, subst, arith, div-le_self, zero-add}
 use Rattle.std.proofs.Math.Option.{Option, none, some}
 use Rattle.lists.specs.Lists.{at, on_opt}
@@ -27,12 +27,12 @@ use Rattle.tables.specs.Decode.{exprs_of, events_of}
 use Rattle.index.specs.Index.{Places}
 use Rattle.evaluation.specs.Evaluated.{REST, evaluated, Readable}
 use Rattle.configs.specs.Encode.{pair_number}
-use Rattle.configs.specs.Flat.{Flat, flat}
+use Rattle.configs.specs.declared.Flat.{Flat}
+use Rattle.configs.specs.Flat.{flat}
 use Rattle.parts.specs.Parts.{Any, tidied}
 use Rattle.queues.specs.Queues.{Put}
 use Rattle.queues.specs.Queues as queues
-use Rattle.engine.specs.declared.Outcome.{Outcome}
-use Rattle.engine.specs.declared.Outcome.TheVariants.{Took, Refused}
+use Rattle.engine.specs.Outcome.{Outcome}
 use Rattle.engine.specs.Engine.{Stands, Performed}
 use Rattle.engine.specs.Holding.{RowBecomes}
 use Rattle.remaining.specs.Remaining.{Headed}
@@ -117,7 +117,7 @@ module _ {k t e a w : ℕ} {exprs places types ids values counts parts held wait
     target = sym target_is ∙ sym (ap (λ (x : ℕ). value_of (x % REST)) gave) ∙ sym read
 
     -- it is no id: refused
-    pub send_refused : (n : ℕ) (α : List Reply) (x : Answer) → ((f : ℕ → Act) → on_target v f ≡ refuses x) → Sent n α (Refused x) counts parts waiting pairs
+    pub send_refused : (n : ℕ) (α : List Reply) (x : Answer) → ((f : ℕ → Act) → on_target v f ≡ refuses x) → Sent n α (Err x) counts parts waiting pairs
     send_refused n α x h = rw (target, h (λ i. sends i (payload q.p q.m.this q.m.loc w t e a) (moves_on q.p q.r q.m.loc))) (refl, refl)
 
     module _ (i : Live) (id : v ≡ vid i) where
@@ -161,7 +161,7 @@ module _ {k i e a rest : ℕ} {exprs places types ids values counts parts held w
 
   module _ (to : ℕ) (first : First ids i to) where
     -- 12
-    pub to_not_live : to ≡ 32 → SentTo (Refused SendToNotLive) counts parts waiting pairs
+    pub to_not_live : to ≡ 32 → SentTo (Err SendToNotLive) counts parts waiting pairs
     to_not_live h = sent_not_live p q.asked.sound f q.asked.c k m q.asked.lives i (payload p m.this m.loc q.w q.t e a) (moves_on p q.asked.r m.loc)
         (not_found p f q.asked.c q.asked.lives.sized q.asked.lives.holds q.asked.lives.accepted i to q.low first (omega arith))
 
@@ -198,8 +198,8 @@ module _ {k i e a rest : ℕ} {exprs places types ids values counts parts held w
             (subst (λ j. Performed f (definition.perform p q.asked.c m.this m (sends j o (moves_on p q.asked.r m.loc))) r g) target_found.1.1 d)
 
         -- 15
-        pub to_wrong : false ≡ suits (at void (events_of types) e) (value_of (u % REST)) → SentTo (Refused WrongType) counts parts waiting pairs
-        to_wrong h = carry none (Refused WrongType) f (rw (tested false h))
+        pub to_wrong : false ≡ suits (at void (events_of types) e) (value_of (u % REST)) → SentTo (Err WrongType) counts parts waiting pairs
+        to_wrong h = carry none (Err WrongType) f (rw (tested false h))
             (sent_wrong p q.asked.sound f q.asked.c k m q.asked.lives to target_found.0 target_found.1.0 none (moves_on p q.asked.r m.loc) refl)
 
         module _ (z : ℕ) (made : z ≡ e * 1099511627776 + u % REST) (suited : true ≡ suits (at void (events_of types) e) (value_of (u % REST))) (waiting' pairs' : List ℕ) where
@@ -226,15 +226,15 @@ module _ {k i e a rest : ℕ} {exprs places types ids values counts parts held w
           )
 
           -- 16
-          pub to_full : Put pairs waiting to z false pairs' waiting' → SentTo (Refused QueueFull) counts parts waiting' pairs'
-          to_full h = carry (some y) (Refused QueueFull) (with_sent f counts parts waiting' pairs') sent_is
+          pub to_full : Put pairs waiting to z false pairs' waiting' → SentTo (Err QueueFull) counts parts waiting' pairs'
+          to_full h = carry (some y) (Err QueueFull) (with_sent f counts parts waiting' pairs') sent_is
               (sent_full p q.asked.sound f q.asked.c k m q.asked.lives to target_found.0 target_found.1.0 y fine (moves_on p q.asked.r m.loc) waiting' pairs'
               (subst (λ (n : ℕ). Put pairs waiting to n false pairs' waiting') pair_number_lem h))
 
           -- SENT
           pub to_done : (counts' parts' : List ℕ) (pending : Bool) → pending ≡ not (eqb (get_or held k 0) 0) → Put pairs waiting to z true pairs' waiting'
-              → RowBecomes k counts parts Any (λ p r. tidied pending p (0 ∷ drop 1 r)) counts' parts' → SentTo (Took SEND) counts' parts' waiting' pairs'
-          to_done counts' parts' pending pends h row = carry (some y) (Took SEND) (with_sent f counts' parts' waiting' pairs') sent_is
+              → RowBecomes k counts parts Any (λ p r. tidied pending p (0 ∷ drop 1 r)) counts' parts' → SentTo (Ok SEND) counts' parts' waiting' pairs'
+          to_done counts' parts' pending pends h row = carry (some y) (Ok SEND) (with_sent f counts' parts' waiting' pairs') sent_is
               (sent_done p q.asked.sound f q.asked.c k m q.asked.lives to target_found.0 target_found.1.0 y fine (moves_on p q.asked.r m.loc) waiting' pairs' counts' parts'
               (remains_changed p f k m q.asked.sound (stands q.asked) {Of = Any} (λ p r. 0 ∷ drop 1 r) pending pends row tt (0 ∷ q.asked.r) (rw q.asked.row))
               (subst (λ (n : ℕ). Put pairs waiting to n true pairs' waiting') pair_number_lem h))

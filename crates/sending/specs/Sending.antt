@@ -1,5 +1,5 @@
 -- SEND as the definitions have it: where the pair goes, and what is left where it does not.
-use Rattle.std.specs.Prelude.{ℕ, ◌≤◌, ◌≡◌, refl, true, false, List, map, length, get_or}
+use Rattle.std.specs.Prelude.{ℕ, ◌≤◌, ◌≡◌, refl, true, false, List, map, length, get_or, Ok, Err}
 use Rattle.std.proofs.Common.{ap, sym, ◌∙◌}
 use Rattle.std.proofs.Math.Option
 use Rattle.std.proofs.Math.Option.{Option, none, some}
@@ -17,10 +17,10 @@ use Rattle.rules.specs.Step as definition
 use Rattle.acceptance.specs.Accepted.{PairOk}
 use Rattle.configs.specs.Decode.{pair_of}
 use Rattle.configs.specs.Encode.{pair_number, taken, room_code, written}
-use Rattle.configs.specs.Flat.{Flat, room_at, held}
+use Rattle.configs.specs.declared.Flat.{Flat}
+use Rattle.configs.specs.Flat.{room_at, held}
 use Rattle.queues.specs.Queues as queues
 use Rattle.queues.specs.Queues.{queue_at, Put, put_done, put_refused}
-use Rattle.engine.specs.declared.Outcome.TheVariants.{Took, Refused}
 use Rattle.engine.specs.Engine.{Changed, Performed}
 use Rattle.remaining.specs.Held.{with_row}
 use Rattle.kept.specs.Kept.{distinct_each}
@@ -34,12 +34,12 @@ with_sent f counts parts waiting pairs = with_queues (with_row f counts parts) w
 
 module _ (p : Program) (sound : Sound p) (f : Flat) (c : Config) (k : ℕ) (m : Machine) (from : Lives p f c k m) where
   -- 12: the target is not live
-  pub sent_not_live : (i : ℕ) (x : Option Pair) (l : Local) → find i c.rooms ≡ none → Performed f (definition.perform p c m.this m (sends i x l)) (Refused SendToNotLive) f
+  pub sent_not_live : (i : ℕ) (x : Option Pair) (l : Local) → find i c.rooms ≡ none → Performed f (definition.perform p c m.this m (sends i x l)) (Err SendToNotLive) f
   sent_not_live i x l e = rw e (refl, refl)
 
   module _ (j : ℕ) (n : Machine) (to : Lives p f c j n) where
     -- 15: the payload does not suit
-    pub sent_wrong : (x : Option Pair) (l : Local) → x ≡ none → Performed f (definition.perform p c m.this m (sends n.this x l)) (Refused WrongType) f
+    pub sent_wrong : (x : Option Pair) (l : Local) → x ≡ none → Performed f (definition.perform p c m.this m (sends n.this x l)) (Err WrongType) f
     sent_wrong x l e = rw (lives_found p f c j n to, e) (refl, refl)
 
     -- the pair y, which suits
@@ -54,7 +54,7 @@ module _ (p : Program) (sound : Sound p) (f : Flat) (c : Config) (k : ℕ) (m : 
 
       -- 16: the queue is full
       pub sent_full : Put f.pairs f.waiting j (pair_number y) false pairs waiting
-          → Performed f (definition.perform p c m.this m (sends n.this (some y) l)) (Refused QueueFull) (with_queues f waiting pairs)
+          → Performed f (definition.perform p c m.this m (sends n.this (some y) l)) (Err QueueFull) (with_queues f waiting pairs)
       sent_full h =
           let d = put_refused f.pairs f.waiting j pairs waiting ready (pair_number y) h in
           let e : put n.queue y ≡ none =
@@ -73,7 +73,7 @@ module _ (p : Program) (sound : Sound p) (f : Flat) (c : Config) (k : ℕ) (m : 
 
         -- the configuration after the sender moved on
         moves : held (with_row f counts parts) ≡ written (with_local m.this l c)
-        moves = local_written p f c k m from (Took SEND) (with_row f counts parts) l moved
+        moves = local_written p f c k m from (Ok SEND) (with_row f counts parts) l moved
 
         -- its room
         room : room_at (with_row f counts parts) j ≡ taken target
@@ -89,7 +89,7 @@ module _ (p : Program) (sound : Sound p) (f : Flat) (c : Config) (k : ℕ) (m : 
             ∙ ap (λ (i : ℕ). written (with_queue i q (with_local m.this l c))) (keeps_local m.this l n)
 
         pub sent_done : Put f.pairs f.waiting j (pair_number y) true pairs waiting
-            → Performed f (definition.perform p c m.this m (sends n.this (some y) l)) (Took SEND) (with_sent f counts parts waiting pairs)
+            → Performed f (definition.perform p c m.this m (sends n.this (some y) l)) (Ok SEND) (with_sent f counts parts waiting pairs)
         sent_done h =
             let d = put_done f.pairs f.waiting j pairs waiting ready (pair_number y) h in
             let e = number_put p c.next sound to.accepted.next_high n.queue y (lives_ok p f c j n to).queue_ok.pairs fine d.0 (rw waits at d.1.0) in

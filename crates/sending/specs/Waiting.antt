@@ -20,7 +20,8 @@ use Rattle.codes.specs.Pairs.{CanonicalPair, pair_canonical}
 use Rattle.configs.specs.Decode.{pair_of}
 use Rattle.configs.specs.Encode.{pair_number, taken}
 use Rattle.configs.proofs.RoundTrip.{holdable, pair_back}
-use Rattle.configs.specs.Flat.{Flat, Sized, room_at, room_path}
+use Rattle.configs.specs.declared.Flat.{Flat}
+use Rattle.configs.specs.Flat.{Sized, room_at, room_path}
 use Rattle.queues.specs.Queues.{queue_at, put_number, Becomes, becomes_ok, becomes_queue, becomes_other_row, becomes_other_count}
 use Rattle.queues.specs.Queues as queues
 use Rattle.queues.specs.Meaning.{put_meets, put_canonical}

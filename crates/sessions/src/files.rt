@@ -1,5 +1,6 @@
 // Files by a name and an ending, read to their end into a lent buffer.
-ghost use Rattle.std.specs.Prelude.{◌≡◌, length, IfOk};
+// stays: no heap: a buffer is the caller's, and how many bytes of it are used is answered
+ghost use Rattle.std.specs.Prelude.{◌≡◌, length, IfOk, IfSome};
 ghost use Rattle.input.specs.Counts.{IsPrefixLen};
 ghost use Rattle.handed_runs.specs.HandedRuns.{fronted};
 ghost use Rattle.sessions.specs.FileName.{file_name};
@@ -11,22 +12,12 @@ use std::{fs, io, str};
 // A path has no more bytes than this.
 const PATH: usize = 4096;
 
-// What was read: how many bytes, at the front of the buffer; and whether they are the whole file.
-#[derive(Clone, Copy)]
-pub struct Held {
-    pub size: usize,
-    pub whole: bool,
-}
-
 // The name of a file, from the front of a buffer on; and its length.
 fn name_file(name: &[u8], ending: &[u8], path: &mut [u8]) -> usize
     ensures value { result ≡ length (file_name name.now ending.now (length path.old)) }
     ensures path_after { path.new ≡ fronted (file_name name.now ending.now (length path.old)) path.old }
 {
-    if path.len() < name.len() {
-        return 0;
-    }
-    if path.len() - name.len() < ending.len() {
+    if path.len() < name.len() || path.len() - name.len() < ending.len() {
         return 0;
     }
     let place = writing::write_word(path, 0, name);
@@ -36,46 +27,24 @@ fn name_file(name: &[u8], ending: &[u8], path: &mut [u8]) -> usize
 // Whether an open file has nothing left. A read that fails is no end.
 fn at_end(file: &mut impl Read) -> bool {
     let mut next = [0u8; 1];
-    match file.read(&mut next) {
-        Ok(n) => n == 0,
-        Err(_) => false,
-    }
+    matches!(file.read(&mut next), Ok(0))
 }
 
-// The bytes of the file at a path, and whether they are all of it.
-fn read_path(rt: &impl Files, path: &str, buf: &mut [u8]) -> io::Result<Held>
-    ensures { IfOk result (λ h. IsPrefixLen h.size buf.new) }
+// How many bytes the file at a path has, which are then at the front of the buffer; none where it is longer than the buffer.
+fn read_path(rt: &impl Files, path: &str, buf: &mut [u8]) -> io::Result<Option<usize>>
+    ensures { IfOk result (λ o. IfSome o (λ n. IsPrefixLen n buf.new)) }
 {
     let mut file = fs::open(rt, path)?;
     let size = input::read_full(&mut file, buf)?;
-    let whole = at_end(&mut file);
-    Ok(Held {
-        size: size,
-        whole: whole,
-    })
+    Ok(at_end(&mut file).then_some(size))
 }
 
-// Nothing of a file.
-fn nothing() -> Held
-    ensures { result.size ≡ 0 }
-{
-    Held {
-        size: 0,
-        whole: false,
-    }
-}
-
-// The bytes of a file. One that cannot be opened or read, or that is longer than the buffer, is not held whole.
-pub fn read_file(rt: &impl Files, name: &[u8], ending: &[u8], buf: &mut [u8]) -> Held
-    ensures { IsPrefixLen result.size buf.new }
+// How many bytes a file has, which are then at the front of the buffer. None of one that cannot be opened or read, or that is longer than the buffer.
+pub fn read_file(rt: &impl Files, name: &[u8], ending: &[u8], buf: &mut [u8]) -> Option<usize>
+    ensures { IfSome result (λ n. IsPrefixLen n buf.new) }
 {
     let mut path = [0u8; PATH];
     let length = name_file(name, ending, &mut path);
-    match str::from_utf8(&path[..length]) {
-        Ok(path) => match read_path(rt, path, buf) {
-            Ok(held) => held,
-            Err(_) => nothing(),
-        },
-        Err(_) => nothing(),
-    }
+    let path = str::from_utf8(&path[..length]).ok()?;
+    read_path(rt, path, buf).ok()?
 }

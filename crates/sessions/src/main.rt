@@ -38,12 +38,10 @@ fn as_recorded(
     output: &[u8],
 ) -> io::Result<bool> {
     let mut recorded = [0u8; OUTPUT];
-    let held = read_file(rt, name, ending, &mut recorded);
-    if !held.whole {
+    let Some(size) = read_file(rt, name, ending, &mut recorded) else {
         tell(rt, b"cannot be read: ", name, ending)?;
         return Ok(false);
-    }
-    let size = held.size;
+    };
     let is_same = &recorded[..size] == output;
     if !is_same {
         tell(rt, b"differs: ", name, ending)?;
@@ -68,21 +66,16 @@ fn regrouping_as_recorded(rt: &(impl Files + Print), name: &[u8], text: &[u8]) -
 // The text of this name, run and regrouped.
 fn compare(rt: &(impl Files + Print), name: &[u8]) -> io::Result<Found> {
     let mut text = [0u8; Program::TEXT + 1];
-    let held = read_file(rt, name, b".txt", &mut text);
-    if !held.whole {
+    let Some(size) = read_file(rt, name, b".txt", &mut text) else {
         tell(rt, b"cannot be read: ", name, b".txt")?;
         return Ok(Found {
             run: false,
             regrouping: false,
         });
-    }
-    let size = held.size;
+    };
     let run = run_as_recorded(rt, name, &text[..size])?;
     let regrouping = regrouping_as_recorded(rt, name, &text[..size])?;
-    Ok(Found {
-        run: run,
-        regrouping: regrouping,
-    })
+    Ok(Found { run, regrouping })
 }
 
 // The text that an argument names. An argument that is too long is the empty name.
@@ -104,17 +97,11 @@ fn compare_all(rt: &(impl Env + Files + Print + AllocGlobal)) -> io::Result<()> 
     let mut texts: u64 = 0;
     let mut runs: u64 = 0;
     let mut regroupings: u64 = 0;
-    for (i, argument) in env::args(rt)?.enumerate() {
-        if 0 < i {
-            let found = compare_argument(rt, argument.as_str())?;
-            texts = texts.saturating_add(1);
-            if found.run {
-                runs = runs.saturating_add(1);
-            }
-            if found.regrouping {
-                regroupings = regroupings.saturating_add(1);
-            }
-        }
+    for argument in env::args(rt)?.skip(1) {
+        let found = compare_argument(rt, argument.as_str())?;
+        texts = texts.saturating_add(1);
+        runs = runs.saturating_add(u64::from(found.run));
+        regroupings = regroupings.saturating_add(u64::from(found.regrouping));
     }
     tell_counts(rt, texts, runs, regroupings)
 }

@@ -6,8 +6,7 @@ use Rattle.programs.specs.Program.{Program}
 use Rattle.answers.specs.declared.Answer.TheVariants.{Done}
 use Rattle.configs.specs.declared.Room.{Room}
 use Rattle.configs.specs.Decode.{room_of}
-use Rattle.showing.specs.declared.Living.{Living}
-use Rattle.showing.specs.Shown.{live_numbers, living}
+use Rattle.showing.specs.Shown.{Living, live_numbers, living}
 
 -- the numbers of the rooms that are not free
 abbrev pub numbers_in : List Room → List ℕ

@@ -24,8 +24,7 @@ use Rattle.configs.specs.Decode.{down_to, frame_at, machine_of, room_of}
 use Rattle.configs.specs.Encode.{taken, room_code}
 use Rattle.configs.specs.Reversed.{down_to_length}
 use Rattle.handed.specs.Handed.{Fit}
-use Rattle.showing.specs.declared.Shown.{Shown}
-use Rattle.showing.specs.Shown.{top_state, shown}
+use Rattle.showing.specs.Shown.{Shown, top_state, shown}
 
 -- THE STATE ON TOP of a stack that is not empty stands in the last of its places
 pub top_at : (p : Program) (states maps : List ℕ) (depth : ℕ) → (depth ≡ 0 → ⊥) → get_or states (depth - 1) 0 ≡ top_state (down_to (frame_at p states maps) depth)

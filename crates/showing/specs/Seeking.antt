@@ -1,5 +1,5 @@
 -- One machine sought by its live number, room by room: a room is free where its number is 0.
-use Rattle.std.specs.Prelude.{ℕ, ◌+◌, ◌≤◌, ◌<◌, ◌≡◌, refl, Bool, true, false, List, [], ◌∷◌, map, eqb, length, get_or, drop}
+use Rattle.std.specs.Prelude.{ℕ, zero, suc, ◌+◌, ◌≤◌, ◌<◌, ◌≡◌, refl, Bool, true, false, List, [], ◌∷◌, map, eqb, length, get_or, drop}
 use Rattle.std.proofs.Common.{sym, ap, ◌∙◌, add-one, arith, eq-eqb, ne_eqb, drop_of_length-le, drop-cons}
 use Rattle.std.proofs.Math.Option.{none, some}
 use Rattle.programs.specs.Program.{Program}
@@ -58,3 +58,10 @@ module _ {p : Program} {rooms : List Room} {i k : ℕ} (s : Seeking p rooms i k)
   seeking_all h =
       let b : length rooms ≤ k = omega (arith, s.full) in
       s.rest ∙ ap (λ (l : List Room). find i (map (room_of p) l)) (drop_of_length-le rooms {i = k} b)
+
+-- no room before the k-th is the machine's
+pub seeking_to : (p : Program) (rooms : List Room) (i k : ℕ) (d : Room) → length rooms ≡ 32 → k ≤ 32 → ((j : ℕ) → j < k → (get_or rooms j d).this.0 ≡ i → ⊥) → Seeking p rooms i k
+seeking_to p rooms i zero d e h n = seeking_none p rooms i e
+seeking_to p rooms i (suc k) d e h n =
+    let s : k + 1 ≡ suc k = omega arith in
+    rw s at (seeking_more (seeking_to p rooms i k d e (omega arith) (λ j b. n j (omega arith))) d (omega arith) (n k (omega arith)))

@@ -1,6 +1,6 @@
 -- What a state defers is ascending; and the variables of an init list are where each is below the next.
-use Rattle.std.specs.Prelude.{ℕ, zero, suc, ◌+◌, ◌≤◌, ◌<◌, ◌≡◌, refl, Bool, true, false, List, [], ◌∷◌, ltb, length, get_or}
-use Rattle.std.proofs.Common.{arith, lt-ltb, below_more}
+use Rattle.std.specs.Prelude.{ℕ, zero, suc, ◌+◌, ◌-◌, ◌≤◌, ◌<◌, ◌≡◌, refl, Bool, true, false, List, [], ◌∷◌, ltb, length, get_or}
+use Rattle.std.proofs.Common.{sym, arith, lt-ltb, below_more}
 use Rattle.lists.specs.Lists.{keep, push, All}
 use Rattle.lists.specs.Facts.{and_fails}
 use Rattle.lists.specs.Keep.{All-keep}
@@ -9,6 +9,7 @@ use Rattle.programs.specs.Sizes.{EVENTS}
 use Rattle.tables.specs.Decode.{flag, defer_of}
 use Rattle.tables.specs.Numbered.{table_all}
 use Rattle.soundness.specs.Asked.{ascending}
+use Rattle.faults.specs.Ranges.{EachOf}
 
 -- a number below all of an ascending list in front of it
 ascends : (x : ℕ) (l : List ℕ) → All (λ y. x < y) l → ascending l ≡ true → ascending (x ∷ l) ≡ true
@@ -58,3 +59,12 @@ not_ascends (x ∷ y ∷ l) (suc i) h t = and_fails (ltb x y) _ (not_ascends (y 
   where
     next : ltb (get_or (x ∷ y ∷ l) (suc i) 0) (get_or (x ∷ y ∷ l) (suc i + 1) 0) ≡ false → ltb (get_or (y ∷ l) i 0) (get_or (y ∷ l) (i + 1) 0) ≡ false
     next e = let s : suc i + 1 ≡ suc (i + 1) = omega arith in rw s at e
+
+-- each but the first is told by whether the one before is below it
+pub ascends_told : (l : List ℕ) (n : ℕ) → length l ≡ n → (r : Bool) → EachOf (λ j b. 1 ≤ j → j < n → b ≡ ltb (get_or l (j - 1) 0) (get_or l j 0)) 1 n r → r ≡ ascending l
+ascends_told l n e true h = sym (rising_ascends l (n - 1) (omega (arith, e)) (λ j b.
+    let z : j + 1 - 1 ≡ j = omega arith in
+    rw z at (sym (h (j + 1) (omega arith) (omega arith) (omega arith) (omega arith)))))
+ascends_told l n e false h =
+    let z : h.0 - 1 + 1 ≡ h.0 = omega (arith, h.1) in
+    sym (not_ascends l (h.0 - 1) (omega (arith, h.1, h.2, e)) (rw z (sym (h.3 h.1 h.2))))

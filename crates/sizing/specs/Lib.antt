@@ -1,5 +1,3 @@
--- every number from 1 to n, tested in a loop
-pub mod Upward
 -- what is ascending
 pub mod Ascending
 -- how many are kept

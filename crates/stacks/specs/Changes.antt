@@ -151,11 +151,11 @@ module _ (k : ℕ) (depths states maps : List ℕ) (p : Program) (f : Frame) (γ
         }
 
 -- WHAT THE FUNCTIONS LEAVE
-module _ (k : ℕ) (depths states maps : List ℕ) (a : Deep k depths states maps) where
+module _ {k : ℕ} {depths states maps : List ℕ} (a : Deep k depths states maps) where
   -- pop_frame
-  pub pop_leaves : (maps' : List ℕ) → maps' ≡ put (k * 512 + (get_or depths k 0 - 1) * 64) (replicate 64 0) maps
+  pub pop_leaves : {maps' : List ℕ} → maps' ≡ put (k * 512 + (get_or depths k 0 - 1) * 64) (replicate 64 0) maps
       → StackBecomes k depths states maps Any popped (set depths k (get_or depths k 0 - 1)) (set states (k * 8 + (get_or depths k 0 - 1)) 0) maps'
-  pop_leaves maps' q = rw q (
+  pop_leaves q = rw q (
       let zeros : length (replicate {A = ℕ} 64 0) ≡ 64 = length-replicate {A = ℕ} 64 0 in
       record {
         depths_off = touched_place k (get_or depths k 0 - 1) depths;
@@ -174,11 +174,11 @@ module _ (k : ℕ) (depths states maps : List ℕ) (a : Deep k depths states map
   }
 
 -- call_frame
-pub call_leaves : (says kinds flags : List ℕ) (k events : ℕ) (depths states maps : List ℕ) (a : CallAsked says kinds flags k events depths states maps) (n : ℕ) (maps' : List ℕ)
+pub call_leaves : {says kinds flags : List ℕ} {k events : ℕ} {depths states maps : List ℕ} (a : CallAsked says kinds flags k events depths states maps) (n : ℕ) {maps' : List ℕ}
     → ((p : Program) (entries exits : List ℕ) → Tables p says kinds entries exits flags → length p.events ≡ events
     → maps' ≡ put (k * 512 + (get_or depths k 0 - 1) * 64 + 64) (called p (get_or states (k * 8 + (get_or depths k 0 - 1)) 0) (map_at p (k * 512 + (get_or depths k 0 - 1) * 64) maps)) maps)
     → StackBecomes k depths states maps (Callable says kinds flags events) (entered n) (set depths k (get_or depths k 0 + 1)) (set states (k * 8 + get_or depths k 0) n) maps'
-call_leaves says kinds flags k events depths states maps a n maps' q =
+call_leaves {k = k} {depths = depths} {states = states} {maps = maps} a n {maps'} q =
     let d = a.deep in
     let t = a.callable in
     let l : length (called a.program (get_or states (k * 8 + (get_or depths k 0 - 1)) 0) (map_at a.program (k * 512 + (get_or depths k 0 - 1) * 64) maps)) ≡ 64 =

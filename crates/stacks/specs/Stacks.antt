@@ -19,7 +19,8 @@ use Rattle.acceptance.specs.Accepted.{FrameOk, LocalOk}
 use Rattle.configs.specs.Decode.{reply_of, frame_at}
 use Rattle.configs.specs.Encode.{map_codes, reply_code, taken}
 use Rattle.configs.proofs.RoundTrip.{stack_back}
-use Rattle.configs.specs.Flat.{Flat, Sized, room_at}
+use Rattle.configs.specs.declared.Flat.{Flat}
+use Rattle.configs.specs.Flat.{Sized, room_at}
 use Rattle.configs.specs.declared.Room.{Room}
 use Rattle.maps.specs.Maps.{Tables, map_at}
 use Rattle.engine.specs.Holding.{Elsewhere, StackHeld}

@@ -1,25 +1,42 @@
 // The call stack of a room in the flat arrays: 8 states and 8 maps of 64 places a room, the first frame first. The frame on top is popped, put into another
 // state, or left below a frame that is called.
+// stays: no plainer: these functions are lent the arrays that they touch, so that no contract need say that the others stay
 #![tactic(auto)]
 
-ghost use Rattle.std.specs.Prelude.{◌≡◌, List, ℕ, ◌+◌, ◌≤◌, length, replicate};
-ghost use Rattle.rows.specs.Part.{put};
+ghost use Rattle.std.specs.Prelude.{◌≡◌, List, ℕ, ◌+◌, ◌-◌, ◌*◌, get_or};
 ghost use Rattle.parts.specs.Parts.{Any};
 ghost use Rattle.stacks.specs.Stacks.{Deep, Callable, CallAsked, StackBecomes, popped, stepped, entered};
 
+use index::Says;
 use maps::call_map;
 use tables::Program;
 
-// Zeros in the 64 places from b on.
-fn clear_map(maps: &mut [u8; Program::ROOMS * Program::STACK * Program::EVENTS], b: usize)
-    requires { (length maps.old ≡ 16384) × (b + 64 ≤ 16384) }
-    ensures { maps.new ≡ put b (replicate 64 0) maps.old }
+// The place of the frame on top of room k's stack among the frames of all rooms.
+fn top_place(depths: &[usize; Program::ROOMS], k: usize) -> usize
+    requires { (states : List ℕ) × ((maps : List ℕ) × Deep k depths.now states maps) }
+    ensures { result ≡ k * 8 + (get_or depths.now k 0 - 1) }
 {
-    let mut e: usize = 0;
-    while e < Program::EVENTS {
-        maps[b + e] = 0;
-        e += 1;
-    }
+    k * Program::STACK + (depths[k] - 1)
+}
+
+// The state on top of room k's stack.
+pub fn top_state(
+    depths: &[usize; Program::ROOMS],
+    states: &[u8; Program::ROOMS * Program::STACK],
+    k: usize,
+) -> usize
+    requires { (maps : List ℕ) × Deep k depths.now states.now maps }
+    ensures { result ≡ get_or states.now (k * 8 + (get_or depths.now k 0 - 1)) 0 }
+{
+    usize::from(states[top_place(depths, k)])
+}
+
+// Where the map on top of room k's stack begins.
+pub fn top_map(depths: &[usize; Program::ROOMS], k: usize) -> usize
+    requires { (states : List ℕ) × ((maps : List ℕ) × Deep k depths.now states maps) }
+    ensures { result ≡ k * 512 + (get_or depths.now k 0 - 1) * 64 }
+{
+    top_place(depths, k) * Program::EVENTS
 }
 
 // The frame on top of room k's stack is popped, and its places are zero.
@@ -32,13 +49,10 @@ pub fn pop_frame(
     requires { Deep k depths.old states.old maps.old }
     ensures { StackBecomes k depths.old states.old maps.old Any popped depths.new states.new maps.new }
 {
-    let d = depths[k] - 1;
-    states[k * Program::STACK + d] = 0;
-    clear_map(
-        maps,
-        k * (Program::STACK * Program::EVENTS) + d * Program::EVENTS,
-    );
-    depths[k] = d;
+    states[top_place(depths, k)] = 0;
+    let b = top_map(depths, k);
+    maps[b..b + Program::EVENTS].fill(0);
+    depths[k] -= 1;
 }
 
 // The frame on top of room k's stack is in state n.
@@ -51,15 +65,13 @@ pub fn step_frame(
     requires { (maps : List ℕ) × Deep k depths.now states.old maps }
     ensures { (maps : List ℕ) → Deep k depths.now states.old maps → StackBecomes k depths.now states.old maps Any (stepped n) depths.now states.new maps }
 {
-    let d = depths[k] - 1;
-    states[k * Program::STACK + d] = n;
+    states[top_place(depths, k)] = n;
 }
 
 // A frame in state n is called from the frame on top of room k's stack.
-pub fn call_frame<'a>(
-    says: &[u8; (Program::STATES + 1) * (Program::EVENTS + 1) * 3],
-    kinds: &'a [u8; Program::STATES + 1],
-    flags: &'a [u8; (Program::STATES + 1) * (Program::EVENTS + 1)],
+pub fn call_frame(
+    program: &Program,
+    says: &Says,
     depths: &mut [usize; Program::ROOMS],
     states: &mut [u8; Program::ROOMS * Program::STACK],
     maps: &mut [u8; Program::ROOMS * Program::STACK * Program::EVENTS],
@@ -67,13 +79,12 @@ pub fn call_frame<'a>(
     n: u8,
     events: usize,
 )
-    requires { CallAsked says.now kinds.now flags.now k events depths.old states.old maps.old }
-    ensures { StackBecomes k depths.old states.old maps.old (Callable says.now kinds.now flags.now events) (entered n) depths.new states.new maps.new }
+    requires { CallAsked says.now program.now.state_of program.now.defers k events depths.old states.old maps.old }
+    ensures { StackBecomes k depths.old states.old maps.old (Callable says.now program.now.state_of program.now.defers events) (entered n) depths.new states.new maps.new }
 {
+    let s = top_state(depths, states, k);
+    call_map(program, says, maps, top_map(depths, k), s, events);
     let d = depths[k];
-    let from = k * (Program::STACK * Program::EVENTS) + (d - 1) * Program::EVENTS;
-    let s = states[k * Program::STACK + (d - 1)] as usize;
-    call_map(says, kinds, flags, maps, from, s, events);
     states[k * Program::STACK + d] = n;
     depths[k] = d + 1;
 }

@@ -21,7 +21,8 @@ use Rattle.tables.specs.declared.Program.{Program as Tables}
 use Rattle.tables.specs.Decode.{no_state, states_of, program_of}
 use Rattle.configs.specs.declared.Room.{Room}
 use Rattle.configs.specs.Encode.{free, written}
-use Rattle.configs.specs.Flat.{Flat, Sized, flat, room_at, held, room_path}
+use Rattle.configs.specs.declared.Flat.{Flat}
+use Rattle.configs.specs.Flat.{Sized, flat, with_next, sized_next, zeros, zeros_sized, room_at, held, room_path}
 use Rattle.parts.specs.Parts.{Said}
 use Rattle.engine.specs.Engine.{Changed}
 use Rattle.rooms.specs.Standing.{changed_written}
@@ -31,23 +32,11 @@ use Rattle.creating.specs.Newborn.{LayAsked, NewLaid, free_placing, own_row, new
 
 -- THE LISTS OF NO MACHINE, before live number n
 abbrev pub unlaid : ℕ → Flat
-unlaid n = flat (replicate 32 0) (replicate 32 0) (replicate 32 0) (replicate 256 0) (replicate 16384 0) (replicate 608 0) (replicate 32 0) (replicate 1056 0) (replicate 32 0) (replicate 32 0) (replicate 512 0) n
+unlaid n = with_next zeros n
 
 -- have their sizes,
 unlaid_sized : (n : ℕ) → Sized (unlaid n)
-unlaid_sized n = record {
-  ids_32 = length-replicate {A = ℕ} 32 0;
-  kinds_32 = length-replicate {A = ℕ} 32 0;
-  depths_32 = length-replicate {A = ℕ} 32 0;
-  states_256 = length-replicate {A = ℕ} 256 0;
-  maps_16384 = length-replicate {A = ℕ} 16384 0;
-  values_608 = length-replicate {A = ℕ} 608 0;
-  counts_32 = length-replicate {A = ℕ} 32 0;
-  parts_1056 = length-replicate {A = ℕ} 1056 0;
-  held_32 = length-replicate {A = ℕ} 32 0;
-  waiting_32 = length-replicate {A = ℕ} 32 0;
-  pairs_512 = length-replicate {A = ℕ} 512 0;
-}
+unlaid_sized n = sized_next zeros n zeros_sized
 
 -- every room of them is free,
 unlaid_free : (n j : ℕ) → j < 32 → room_at (unlaid n) j ≡ free

@@ -1,18 +1,24 @@
 -- What a program that is handed in starts with: 20 where it is not sound, else its start configuration; and that nothing of 20 holds of that configuration.
-use Rattle.std.specs.Prelude.{◌≡◌, false, cond, replicate}
+use Rattle.std.specs.Prelude.{◌≡◌, false, cond, eqb, replicate, Result, Ok, Err}
 use Rattle.std.proofs.Math.Option.{none}
 use Rattle.answers.specs.declared.Answer.{Answer}
 use Rattle.answers.specs.declared.Answer.TheVariants.{Done, NotAccepted}
+use Rattle.answers.specs.Number.{number}
 use Rattle.programs.specs.Sizes.{LIVE}
 use Rattle.machines.specs.Config.{Config}
 use Rattle.rules.specs.Step.{start_config}
 use Rattle.soundness.specs.Sound.{Sound, sound, sound_is}
 use Rattle.tables.specs.declared.Program.{Program as Tables}
 use Rattle.tables.specs.Decode.{program_of}
+use Rattle.configs.specs.declared.Config.{Config as Held}
 use Rattle.configs.specs.Encode.{written}
 use Rattle.handed.specs.Handed.{Fit}
 use Rattle.handed.specs.Start.{start_fits}
-use Rattle.starting.specs.declared.Started.{Started}
+
+-- what a program starts with: an answer with a configuration
+pub record Started : Type 0 where
+  pub answer : Answer
+  pub config : Held
 
 -- the configuration of no machine: every room is free, and live numbers begin at 1
 abbrev pub no_machine : Config
@@ -25,6 +31,10 @@ started_as a c = record { answer = a; config = written c }
 -- THE START of what is handed in: "20 .. the program breaks 3 to 9, has a void variable or a list not ascending"; else 0 and the start configuration
 unfoldable pub start_of : Tables → Started
 start_of q = cond (sound (program_of q)) (started_as Done (start_config (program_of q))) (started_as NotAccepted no_machine)
+
+-- the configuration where the answer is 0, and else the answer
+abbrev pub beginning_of : Started → Result Held Answer
+beginning_of s = cond (eqb (number s.answer) 0) (Ok s.config) (Err s.answer)
 
 -- any other program does not start
 pub start_unsound : (q : Tables) → sound (program_of q) ≡ false → start_of q ≡ started_as NotAccepted no_machine

@@ -1,6 +1,6 @@
 -- The conditions of if, while and assert: what the function that works one out is asked and leaves, and which way an act goes by it.
-use Rattle.std.specs.Prelude.{ℕ, ◌*◌, ◌/◌, ◌%◌, ◌^◌, ◌<◌, ◌≡◌, refl, true, false, List}
-use Rattle.std.proofs.Common.{ap, sym, ◌∙◌, arith, div-one}
+use Rattle.std.specs.Prelude.{ℕ, ◌*◌, ◌/◌, ◌%◌, ◌^◌, ◌<◌, ◌≡◌, refl, Bool, true, false, List, Option, Some, None}
+use Rattle.std.proofs.Common.{ap, sym, ◌∙◌, div-one}
 use Rattle.lists.specs.Facts.{has}
 use Rattle.answers.specs.declared.Answer.TheVariants.{NotABool}
 use Rattle.values.specs.declared.Value.{Value}
@@ -16,43 +16,41 @@ use Rattle.tables.specs.Decode as decode
 use Rattle.stored.specs.Stored.{readable, gives_code, gives_value}
 use Rattle.statements.specs.Heading.{RowAsked, PartAsked}
 
--- THE NUMBER OF A CONDITION: 0 false, 1 true, 2 no bool
-abbrev pub truth_of : Value → ℕ
-truth_of undefined = 2
-truth_of (vbool true) = 1
-truth_of (vbool false) = 0
-truth_of (vint z) = 2
-truth_of (vevent e) = 2
-truth_of (vid i) = 2
+-- THE TRUTH OF A CONDITION: none where it is no bool
+abbrev pub truth_of : Value → Option Bool
+truth_of undefined = None
+truth_of (vbool b) = Some b
+truth_of (vint z) = None
+truth_of (vevent e) = None
+truth_of (vid i) = None
 
--- THE ACT BY A CONDITION'S NUMBER
+-- THE ACT BY A CONDITION'S TRUTH
 module _ (yes' no' : Act) where
   -- 14
-  pub on_none : (v : Value) → truth_of v ≡ 2 → on_bool v yes' no' ≡ refuses NotABool
+  pub on_none : (v : Value) → truth_of v ≡ None → on_bool v yes' no' ≡ refuses NotABool
   on_none undefined e = refl
-  on_none (vbool true) e = absurd (omega arith)
-  on_none (vbool false) e = absurd (omega arith)
+  on_none (vbool b) e = absurd cc
   on_none (vint z) e = refl
   on_none (vevent n) e = refl
   on_none (vid i) e = refl
 
   -- false
-  pub on_false : (v : Value) → truth_of v ≡ 0 → on_bool v yes' no' ≡ no'
-  on_false undefined e = absurd (omega arith)
-  on_false (vbool true) e = absurd (omega arith)
+  pub on_false : (v : Value) → truth_of v ≡ Some false → on_bool v yes' no' ≡ no'
+  on_false undefined e = absurd cc
+  on_false (vbool true) e = absurd cc
   on_false (vbool false) e = refl
-  on_false (vint z) e = absurd (omega arith)
-  on_false (vevent n) e = absurd (omega arith)
-  on_false (vid i) e = absurd (omega arith)
+  on_false (vint z) e = absurd cc
+  on_false (vevent n) e = absurd cc
+  on_false (vid i) e = absurd cc
 
-  -- neither: true
-  pub on_true : (v : Value) → (truth_of v ≡ 2 → ⊥) → (truth_of v ≡ 0 → ⊥) → on_bool v yes' no' ≡ yes'
-  on_true undefined e g = absurd (e refl)
-  on_true (vbool true) e g = refl
-  on_true (vbool false) e g = absurd (g refl)
-  on_true (vint z) e g = absurd (e refl)
-  on_true (vevent n) e g = absurd (e refl)
-  on_true (vid i) e g = absurd (e refl)
+  -- true
+  pub on_true : (v : Value) → truth_of v ≡ Some true → on_bool v yes' no' ≡ yes'
+  on_true undefined e = absurd cc
+  on_true (vbool true) e = refl
+  on_true (vbool false) e = absurd cc
+  on_true (vint z) e = absurd cc
+  on_true (vevent n) e = absurd cc
+  on_true (vid i) e = absurd cc
 
 -- WHAT A RULE THAT EVALUATES IS ASKED: the lists hold the program's expressions, its variables' places and the machine's values, and e is one of the head's
 pub record TestAsked (exprs places values : List ℕ) (k : ℕ) (t : Stmt) (e w : ℕ) (counts parts held : List ℕ) : Type 0 where
@@ -93,6 +91,6 @@ module _ {exprs places values : List ℕ} {k : ℕ} {t : Stmt} {e w : ℕ} {coun
   test_value = let r = a.row in rw (← a.values_are) (gives_value r.p r.f k r.m r.heading.sound r.heading.stands exprs places a.exprs_are a.here
       r.heading.s r.heading.r r.heading.head e (rw r.heading.is a.of) w 0 w none_taken)
 
-  -- so a condition's number is that of the definition's value
-  pub test_truth : {x : ℕ} → x ≡ truth_of (value_of (evaluated exprs places values (k * 19) e w % REST)) → truth_of (eval a.row.p a.row.m.this a.row.m.loc w 0 e) ≡ x
+  -- so a condition's truth is that of the definition's value
+  pub test_truth : {x : Option Bool} → x ≡ truth_of (value_of (evaluated exprs places values (k * 19) e w % REST)) → truth_of (eval a.row.p a.row.m.this a.row.m.loc w 0 e) ≡ x
   test_truth q = sym (q ∙ ap truth_of test_value)

@@ -13,10 +13,10 @@ use Rattle.acceptance.specs.Accepted.{counted, Heights}
 use Rattle.kept.specs.KeptRow.{height_part}
 use Rattle.rules.specs.Act.{Act, does}
 use Rattle.configs.specs.Encode.{held_code}
-use Rattle.configs.specs.Flat.{Flat}
+use Rattle.configs.specs.declared.Flat.{Flat}
 use Rattle.tables.specs.Decode.{stmts_of}
 use Rattle.parts.specs.Parts.{Said, tidied, awaits}
-use Rattle.engine.specs.declared.Outcome.{Outcome}
+use Rattle.engine.specs.Outcome.{Outcome}
 use Rattle.engine.specs.Engine.{Stands, Changed, Acted}
 use Rattle.engine.specs.Holding.{RowBecomes}
 use Rattle.remaining.specs.Remaining.{Standing, Headed, Placing, Dropping, standing}

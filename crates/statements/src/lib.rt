@@ -1,5 +1,6 @@
 // The rules of a head statement that touch only the machine itself: skip (SEQ), leave, return, assert, if and while. All tests come before the first store, so
 // that a refusal changes nothing. What each is asked and leaves stands in specs/Heading.antt and specs/Conditions.antt.
+// stays: no plainer: these functions are lent the arrays that they touch, so that no contract need say that the others stay
 #![tactic(auto)]
 
 ghost use Rattle.std.specs.Prelude.{◌≡◌, ℕ, ◌*◌, ◌%◌, ◌<◌};
@@ -12,26 +13,10 @@ ghost use Rattle.statements.specs.Conditions.{TestAsked, BranchAsked, truth_of};
 use answers::Answer;
 use engine::Outcome;
 use rules::Rule;
-use tables::{Program, wide};
+use tables::Program;
 use values::Value;
 
-// What evaluation gives holds a value's number below this.
-const REST: u64 = 1099511627776;
-
-// The number of a condition: 0 false, 1 true, 2 no bool.
-fn truth(v: Value) -> u8
-    ensures { result ≡ truth_of v }
-{
-    match v {
-        Value::Undefined => 2,
-        Value::Bool(b) => { if b { 1 } else { 0 } }
-        Value::Int(_) => 2,
-        Value::Event(_) => 2,
-        Value::Id(_) => 2,
-    }
-}
-
-// The number of the condition e in the machine of room k, under the bits w.
+// The condition e in the machine of room k, under the bits w; none where it is no bool.
 fn condition(
     exprs: &[u32; 3 * (Program::EXPRESSIONS + 1)],
     places: &[u8; Program::ALL_VARIABLES + 1],
@@ -39,19 +24,14 @@ fn condition(
     k: usize,
     e: u16,
     w: u64,
-) -> u8
+) -> Option<bool>
     requires { Readable places.now values.now (k * 19) × (w < 256) }
     ensures { result ≡ truth_of (value_of (evaluated exprs.now places.now values.now (k * 19) e w % REST)) }
 {
-    let x = evaluation::eval(
-        exprs,
-        places,
-        values,
-        k * (Program::VARIABLES + 3),
-        wide(e),
-        w,
-    );
-    truth(codes::value_of(x % REST))
+    match codes::value_of(evaluation::number(exprs, places, values, k, e, w)) {
+        Value::Bool(b) => Some(b),
+        _ => None,
+    }
 }
 
 // SEQ: a skip at the head goes.
@@ -67,7 +47,7 @@ pub fn skip_on(
 {
     let pending = held[k] != 0;
     remaining::drop_head(stmts, counts, parts, k, pending);
-    Outcome::Took(Rule::SEQ)
+    Ok(Rule::SEQ)
 }
 
 // LEAVE: nothing remains, and nothing is pending.
@@ -82,7 +62,7 @@ pub fn leave_on(
 {
     remaining::clear_row(counts, parts, k);
     held[k] = 0;
-    Outcome::Took(Rule::LEAVE)
+    Ok(Rule::LEAVE)
 }
 
 // ASSERT: a condition that is true is passed.
@@ -100,22 +80,18 @@ pub fn assert_on(
     requires { TestAsked exprs.now places.now values.now k (assert e) e w counts.old parts.old held.now }
     ensures { (a : TestAsked exprs.now places.now values.now k (assert e) e w counts.old parts.old held.now) → RowLeft a.row w result counts.new parts.new }
 {
-    let c = condition(exprs, places, values, k, e, w);
-    if c == 2 {
-        return Outcome::Refused(Answer::NotABool);
-    }
-    if c == 0 {
-        return Outcome::Refused(Answer::AssertionFalse);
+    let c = condition(exprs, places, values, k, e, w).ok_or(Answer::NotABool)?;
+    if !c {
+        return Err(Answer::AssertionFalse);
     }
     let pending = held[k] != 0;
     remaining::finish_head(counts, parts, k, pending);
-    Outcome::Took(Rule::ASSERT)
+    Ok(Rule::ASSERT)
 }
 
 // IF: statement a where the condition is true, or else b.
 pub fn if_on(
-    stmts: &[u16; 5 * (Program::STATEMENTS + 1)],
-    exprs: &[u32; 3 * (Program::EXPRESSIONS + 1)],
+    program: &Program,
     places: &[u8; Program::ALL_VARIABLES + 1],
     values: &[u64; (Program::VARIABLES + 3) * Program::ROOMS],
     counts: &mut [usize; Program::ROOMS],
@@ -127,26 +103,22 @@ pub fn if_on(
     b: u16,
     w: u64,
 ) -> Outcome
-    requires { BranchAsked stmts.now exprs.now places.now values.now k (if e a b) e w counts.old parts.old held.now }
-    ensures { (q : BranchAsked stmts.now exprs.now places.now values.now k (if e a b) e w counts.old parts.old held.now) → RowLeft q.test.row w result counts.new parts.new }
+    requires { BranchAsked program.now.stmts program.now.exprs places.now values.now k (if e a b) e w counts.old parts.old held.now }
+    ensures { (q : BranchAsked program.now.stmts program.now.exprs places.now values.now k (if e a b) e w counts.old parts.old held.now) → RowLeft q.test.row w result counts.new parts.new }
 {
-    let c = condition(exprs, places, values, k, e, w);
-    if c == 2 {
-        return Outcome::Refused(Answer::NotABool);
-    }
+    let c = condition(&program.exprs, places, values, k, e, w).ok_or(Answer::NotABool)?;
     let pending = held[k] != 0;
-    if c == 0 {
-        remaining::replace_head(stmts, counts, parts, k, b, pending);
-        return Outcome::Took(Rule::IF);
+    if !c {
+        remaining::replace_head(&program.stmts, counts, parts, k, b, pending);
+        return Ok(Rule::IF);
     }
-    remaining::replace_head(stmts, counts, parts, k, a, pending);
-    Outcome::Took(Rule::IF)
+    remaining::replace_head(&program.stmts, counts, parts, k, a, pending);
+    Ok(Rule::IF)
 }
 
 // WHILE: statement a before the head where the condition is true, or else it is passed.
 pub fn while_on(
-    stmts: &[u16; 5 * (Program::STATEMENTS + 1)],
-    exprs: &[u32; 3 * (Program::EXPRESSIONS + 1)],
+    program: &Program,
     places: &[u8; Program::ALL_VARIABLES + 1],
     values: &[u64; (Program::VARIABLES + 3) * Program::ROOMS],
     counts: &mut [usize; Program::ROOMS],
@@ -157,18 +129,15 @@ pub fn while_on(
     a: u16,
     w: u64,
 ) -> Outcome
-    requires { BranchAsked stmts.now exprs.now places.now values.now k (while e a) e w counts.old parts.old held.now }
-    ensures { (q : BranchAsked stmts.now exprs.now places.now values.now k (while e a) e w counts.old parts.old held.now) → RowLeft q.test.row w result counts.new parts.new }
+    requires { BranchAsked program.now.stmts program.now.exprs places.now values.now k (while e a) e w counts.old parts.old held.now }
+    ensures { (q : BranchAsked program.now.stmts program.now.exprs places.now values.now k (while e a) e w counts.old parts.old held.now) → RowLeft q.test.row w result counts.new parts.new }
 {
-    let c = condition(exprs, places, values, k, e, w);
-    if c == 2 {
-        return Outcome::Refused(Answer::NotABool);
-    }
+    let c = condition(&program.exprs, places, values, k, e, w).ok_or(Answer::NotABool)?;
     let pending = held[k] != 0;
-    if c == 0 {
+    if !c {
         remaining::finish_head(counts, parts, k, pending);
-        return Outcome::Took(Rule::WHILE);
+        return Ok(Rule::WHILE);
     }
-    remaining::push_part(stmts, counts, parts, k, a, pending);
-    Outcome::Took(Rule::WHILE)
+    remaining::push_part(&program.stmts, counts, parts, k, a, pending);
+    Ok(Rule::WHILE)
 }

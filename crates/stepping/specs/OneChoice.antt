@@ -1,5 +1,5 @@
 -- THE STEP AS THE RUN OF ONE CHOICE: what the run leaves is what the step leaves; and a number beyond 65,535, which the number of a choice has no room for, is not live.
-use Rattle.std.specs.Prelude.{ℕ, ◌≤◌, ◌<◌, ◌≡◌, refl, List, [], ◌∷◌, map, length, get_or, take}
+use Rattle.std.specs.Prelude.{ℕ, ◌≤◌, ◌<◌, ◌≡◌, refl, List, [], ◌∷◌, map, length, get_or, take, Ok, Err}
 use Rattle.std.proofs.Common.{ap, subst, ◌∙◌, arith}
 use Rattle.std.proofs.Math.Option.{none}
 use Rattle.lists.specs.Facts.{All-get_d}
@@ -17,10 +17,10 @@ use Rattle.acceptance.specs.Accepted.{RoomOk, MachineOk}
 use Rattle.tables.specs.declared.Program.{Program as Tables}
 use Rattle.tables.specs.Decode.{program_of}
 use Rattle.configs.specs.Encode.{written}
-use Rattle.configs.specs.Flat.{Flat, held, flat_config}
+use Rattle.configs.specs.declared.Flat.{Flat}
+use Rattle.configs.specs.Flat.{held, flat_config}
 use Rattle.choices.specs.Choices.{choice_word, choices_of, choice_again}
 use Rattle.labels.specs.Labels.{rule_number, rule_of, rule_again}
-use Rattle.engine.specs.declared.Outcome.TheVariants.{Took, Refused}
 use Rattle.rooms.specs.Places.{find_none}
 use Rattle.accepting.specs.Asked.{IsOne}
 use Rattle.admitting.specs.Admitting.{Laid}
@@ -55,9 +55,9 @@ module _ {q : Tables} {f : Flat} (i : Live) (w : ℕ) (l : Laid q f) (h : IsOne 
       omega (arith, b, n, ok.high, h.accepted.next_high))
 
   -- 19: SO THE NUMBER IS NOT LIVE
-  pub left_beyond : SPENT ≤ i.0 → Left q f i w (Refused UnableToStep) f
+  pub left_beyond : SPENT ≤ i.0 → Left q f i w (Err UnableToStep) f
   unfolding definition.step
-  left_beyond b = step_done q f f i w (Refused UnableToStep) l.sound h l.sized (rw (nobody_beyond b))
+  left_beyond b = step_done q f f i w (Err UnableToStep) l.sound h l.sized (rw (nobody_beyond b))
 
   -- THE RUN OF THE ONE CHOICE
   module _ {row row' : List ℕ} {r : Ending} {g : Flat} (low : w < 256) (left : RunLeft p c (choice_word x ∷ []) 1 row r g row') where
@@ -79,25 +79,25 @@ module _ {q : Tables} {f : Flat} (i : Live) (w : ℕ) (l : Laid q f) (h : IsOne 
     rules_are rs z = left.rules ∙ ap (λ (y : List Choice). fronted (map rule_number (ruled (definition.step p) c y)) row) one ∙ ap (λ (y : List Rule). fronted (map rule_number y) row) z
 
     -- IT TOOK A STEP: by the rule whose number is written
-    pub left_took : r.steps ≡ 1 → {R : Rule} → R ≡ rule_of (get_or row' 0 0) → Left q f i w (Took R) g
-    left_took e {R} s = step_done q f g i w (Took R) l.sound h left.sized (go (definition.step p c x) refl)
+    pub left_took : r.steps ≡ 1 → {R : Rule} → R ≡ rule_of (get_or row' 0 0) → Left q f i w (Ok R) g
+    left_took e {R} s = step_done q f g i w (Ok R) l.sound h left.sized (go (definition.step p c x) refl)
       where
-        go : (o : definition.Outcome) → definition.step p c x ≡ o → stepped (held g) (Took R) ≡ after (held f) o
+        go : (o : definition.Outcome) → definition.step p c x ≡ o → stepped (held g) (Ok R) ≡ after (held f) o
         go (took S d) z =
             let wrote = rules_are (S ∷ []) (ruled_took (definition.step p) c x [] S d z) in
             let same : R ≡ S = s ∙ ap (λ (y : List ℕ). rule_of (get_or y 0 0)) wrote ∙ rule_again S in
             let holds = held_is _ (run_took (definition.step p) c x [] S d z) in
-            λ t. stepped (holds t) (Took (same t))
+            λ t. stepped (holds t) (Ok (same t))
         go (refused a) z = absurd (omega (arith, e, steps_are _ (run_refused (definition.step p) c x [] a z)))
 
     -- IT TOOK NONE: the answer is the step's
-    pub left_refused : (r.steps ≡ 1 → ⊥) → Left q f i w (Refused r.answer) g
-    left_refused n = step_done q f g i w (Refused r.answer) l.sound h left.sized (go (definition.step p c x) refl)
+    pub left_refused : (r.steps ≡ 1 → ⊥) → Left q f i w (Err r.answer) g
+    left_refused n = step_done q f g i w (Err r.answer) l.sound h left.sized (go (definition.step p c x) refl)
       where
-        go : (o : definition.Outcome) → definition.step p c x ≡ o → stepped (held g) (Refused r.answer) ≡ after (held f) o
+        go : (o : definition.Outcome) → definition.step p c x ≡ o → stepped (held g) (Err r.answer) ≡ after (held f) o
         go (took S d) z = absurd (n (steps_are _ (run_took (definition.step p) c x [] S d z)))
         go (refused a) z =
             let ends = run_refused (definition.step p) c x [] a z in
             let holds : held g ≡ held f = held_is _ ends ∙ h.zeroed in
             let answer = answer_is _ ends in
-            λ t. stepped (holds t) (Refused (answer t))
+            λ t. stepped (holds t) (Err (answer t))

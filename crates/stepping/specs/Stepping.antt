@@ -13,8 +13,9 @@ use Rattle.tables.specs.declared.Program.{Program as Tables}
 use Rattle.tables.specs.Decode.{program_of}
 use Rattle.configs.specs.declared.Config.{Config as Held}
 use Rattle.configs.specs.Decode.{config_of}
-use Rattle.configs.specs.Flat.{Flat, Sized, held, flat_config}
-use Rattle.engine.specs.declared.Outcome.{Outcome}
+use Rattle.configs.specs.declared.Flat.{Flat}
+use Rattle.configs.specs.Flat.{Sized, held, flat_config}
+use Rattle.engine.specs.Outcome.{Outcome}
 use Rattle.accepting.specs.Asked.{IsOne}
 use Rattle.handed.specs.declared.Stepped.{Stepped}
 use Rattle.handed.specs.Handed as handed

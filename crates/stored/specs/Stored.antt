@@ -35,7 +35,7 @@ use Rattle.evaluation.specs.Evaluated.{store_in, REST, evaluated, Readable}
 use Rattle.evaluation.specs.Own.{Agree, own_tree, evaluated_is}
 use Rattle.configs.specs.Encode.{taken}
 use Rattle.configs.proofs.RoundTrip.{holdable, value_back}
-use Rattle.configs.specs.Flat.{Flat}
+use Rattle.configs.specs.declared.Flat.{Flat}
 use Rattle.engine.specs.Engine.{Stands}
 
 -- LISTS

@@ -8,7 +8,8 @@ use Rattle.machines.specs.Config.{Pending, Local}
 use Rattle.machines.specs.Locals.{remains}
 use Rattle.machines.specs.Rooms.{set_local}
 use Rattle.configs.specs.Encode.{held_code, taken}
-use Rattle.configs.specs.Flat.{Flat, room_path}
+use Rattle.configs.specs.declared.Flat.{Flat}
+use Rattle.configs.specs.Flat.{room_path}
 use Rattle.parts.specs.Parts.{tidied, awaits}
 use Rattle.engine.specs.Engine.{Changed}
 use Rattle.engine.specs.Holding.{Elsewhere, RowBecomes, untouched, touched_place}

@@ -1,5 +1,5 @@
 -- The rules of src/lib.rt: what each is asked, and what it leaves, a law for each way out.
-use Rattle.std.specs.Prelude.{ℕ, ◌+◌, ◌*◌, ◌%◌, ◌≤◌, ◌<◌, ◌≡◌, refl, Bool, true, false, not, List, [], ◌∷◌, eqb, length, get_or, set, drop}
+use Rattle.std.specs.Prelude.{ℕ, ◌+◌, ◌*◌, ◌%◌, ◌≤◌, ◌<◌, ◌≡◌, refl, Bool, true, false, not, List, [], ◌∷◌, eqb, length, get_or, set, drop, Ok, Err}
 use Rattle.std.proofs.Common.{ap, sym, ◌∙◌, arith}
 use Rattle.lists.specs.Lists.{at}
 use Rattle.answers.specs.declared.Answer.TheVariants.{WrongType}
@@ -19,8 +19,7 @@ use Rattle.tables.specs.Tables.{variables_length}
 use Rattle.tables.specs.Decode.{no_variable, no_state}
 use Rattle.parts.specs.Parts.{Said, Any, tidied}
 use Rattle.evaluation.specs.Evaluated.{REST, evaluated}
-use Rattle.engine.specs.declared.Outcome.{Outcome}
-use Rattle.engine.specs.declared.Outcome.TheVariants.{Took, Refused}
+use Rattle.engine.specs.Outcome.{Outcome}
 use Rattle.engine.specs.Engine.{Acted}
 use Rattle.engine.specs.Holding.{RowBecomes, touched}
 use Rattle.stored.specs.Stored.{place_16, variable_set, head_serves}
@@ -69,12 +68,12 @@ module _ {exprs places kinds types values : List ℕ} {k x e w : ℕ} {counts pa
     suits_is = sym (rw (says, of_type, ← a.variables_are, reads, gives, test_value a.test))
 
     -- 15
-    pub assign_refused : ok ≡ false → StoredLeft a.test.row w (Refused WrongType) values counts parts held
+    pub assign_refused : ok ≡ false → StoredLeft a.test.row w (Err WrongType) values counts parts held
     assign_refused h = rw (suits_is ∙ h) (refl, stored_same a.test.row a.test.values_are)
 
     -- stored
     pub assign_left : {counts' parts' : List ℕ} (j : ℕ) → j ≡ get_or places x 0 → (b : Bool) → b ≡ not (eqb (get_or held k 0) 0) → ok ≡ true
-        → RowBecomes k counts parts Any (λ p r. tidied b p (0 ∷ drop 1 r)) counts' parts' → StoredLeft a.test.row w (Took ASSIGN) (set values (k * 19 + j) v) counts' parts' held
+        → RowBecomes k counts parts Any (λ p r. tidied b p (0 ∷ drop 1 r)) counts' parts' → StoredLeft a.test.row w (Ok ASSIGN) (set values (k * 19 + j) v) counts' parts' held
     assign_left j at_j b z h c =
         let r = a.test.row in
         let n : v ≡ code_of value = gives ∙ test_code a.test in
@@ -97,6 +96,6 @@ pub record ReturnAsked (stmts kinds exits : List ℕ) (k n : ℕ) (counts parts 
 -- its exit
 pub return_left : {stmts kinds exits : List ℕ} {k n : ℕ} {counts parts held counts' parts' : List ℕ} (a : ReturnAsked stmts kinds exits k n counts parts held) (w s : ℕ)
     → s ≡ (at no_state (decode.states_of kinds a.entries exits a.flags) n).exit → RowBecomes k counts parts (Said stmts) (λ p r. tidied true p (s ∷ [])) counts' parts'
-    → PendingLeft a.part.row w (Took RETURN) counts' parts' (set held k 1)
+    → PendingLeft a.part.row w (Ok RETURN) counts' parts' (set held k 1)
 return_left {n = n} a w s e c = let q : s ≡ Exit a.part.row.p a.part.row.heading.top.state = rw (a.state_is, a.states_are) e in
     rw (← q) (refl, row_then a.part.row (λ p r. s ∷ []) true returning refl c (asked_said a.part))

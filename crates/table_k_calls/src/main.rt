@@ -3,16 +3,14 @@
 #![tactic(auto)]
 
 use answers::Answer;
+use codes::EVENT;
 use configs::{Config, Room};
 use engine::Outcome;
 use numbers::number;
 use rules::Rule;
-use std::io;
+use std::{array, io};
 use tables::{Kind, Program};
 use values::{Binary, Live, Unary, Value};
-
-// An event's place in a pair's number.
-const EVENT: u64 = 1099511627776;
 
 // The number of the int 0.
 const INT_ZERO: u64 = 10737418240;
@@ -37,7 +35,7 @@ fn value_row(rt: &impl Print, k: u64, v: Value) -> io::Result<()> {
         Value::Undefined => { rt.print("undefined\n") }
         Value::Bool(_) => { rt.print("bool\n") }
         Value::Int(z) => {
-            if z == 2147483647 {
+            if z == i32::MAX {
                 rt.print("2147483647\n")
             } else {
                 rt.print("int\n")
@@ -61,15 +59,13 @@ fn write_rule(rt: &impl Print, rule: Rule) -> io::Result<()> {
 // A row whose call is a step of machine 1.
 fn step_row(rt: &impl Print, k: u64, program: Program, c: Config) -> io::Result<()> {
     write_row(rt, k)?;
-    let s = stepping::step(program, c, Live(1), 0);
-    let outcome = s.outcome;
-    match outcome {
-        Outcome::Took(rule) => {
+    let stepped = stepping::step(program, c, Live(1), 0);
+    match stepped.outcome {
+        Ok(rule) => {
             write_rule(rt, rule)?;
-            let d = s.config;
-            let m = d.rooms[0];
+            let m = stepped.config.rooms[0];
             rt.print(" msg=")?;
-            write_number(rt, m.values[17] % 4294967296)?;
+            write_number(rt, m.values[Program::MSG] % 4294967296)?;
             rt.print(" waiting=")?;
             write_number(rt, m.waiting as u64)?;
             rt.print(" first=")?;
@@ -77,53 +73,30 @@ fn step_row(rt: &impl Print, k: u64, program: Program, c: Config) -> io::Result<
             rt.print(" last=")?;
             write_number(rt, m.pairs[15] % EVENT % 4294967296 % 2147483648)?;
         }
-        Outcome::Refused(a) => {
+        Err(a) => {
             rt.print("answer ")?;
-            write_number(rt, number(a) as u64)?;
+            write_number(rt, u64::from(number(a)))?;
         }
     }
     rt.print("\n")
 }
 
-// A free room.
-fn free_room() -> Room {
-    Room {
-        this: Live(0),
-        kind: Kind(0),
-        depth: 0,
-        states: [0; Program::STACK],
-        maps: [0; Program::STACK * Program::EVENTS],
-        values: [0; Program::VARIABLES + 3],
-        count: 0,
-        parts: [0; Program::ROW],
-        held: 0,
-        waiting: 0,
-        pairs: [0; Program::QUEUE],
-    }
-}
-
 // Machine 1 in state 1, waiting, its queue empty.
 fn waiting_machine() -> Room {
-    let mut m = free_room();
-    let this = Live(1);
-    let kind = Kind(1);
-    m.this = this;
-    m.kind = kind;
+    let mut m = Room::free();
+    m.this = Live(1);
+    m.kind = Kind(1);
     m.depth = 1;
     m.states[0] = 1;
-    m.values[16] = 17179869185;
+    m.values[Program::THIS] = codes::code(Value::Id(Live(1)));
     m
 }
 
 // The configuration with machine m in its first room.
 fn config(m: Room) -> Config {
-    let free = free_room();
-    let mut rooms = [free; Program::ROOMS];
+    let mut rooms = [Room::free(); Program::ROOMS];
     rooms[0] = m;
-    Config {
-        next: 2,
-        rooms: rooms,
-    }
+    Config { next: 2, rooms }
 }
 
 // Two events of type int, one kind with one state that says nothing.
@@ -136,7 +109,7 @@ fn program() -> Program {
     state_of[0] = 1;
     state_of[1] = 1;
     Program {
-        event_types: event_types,
+        event_types,
         kinds: 1,
         variable_of: [0; Program::ALL_VARIABLES + 1],
         variable_type: [0; Program::ALL_VARIABLES + 1],
@@ -145,7 +118,7 @@ fn program() -> Program {
         inits: [0; 2 * Program::PAIRS],
         action_of: [0; Program::ACTIONS + 1],
         action_body: [0; Program::ACTIONS + 1],
-        state_of: state_of,
+        state_of,
         state_entry: [0; Program::STATES + 1],
         state_exit: [0; Program::STATES + 1],
         defers: [0; (Program::STATES + 1) * (Program::EVENTS + 1)],
@@ -215,35 +188,15 @@ fn full_queue() -> Config {
     m.count = 1;
     m.parts[0] = 1;
     m.waiting = 16;
-    let n = EVENT + INT_ZERO;
-    let pairs = [
-        n,
-        n + 1,
-        n + 2,
-        n + 3,
-        n + 4,
-        n + 5,
-        n + 6,
-        n + 7,
-        n + 8,
-        n + 9,
-        n + 10,
-        n + 11,
-        n + 12,
-        n + 13,
-        n + 14,
-        n + 15,
-    ];
-    m.pairs = pairs;
+    m.pairs = array::from_fn(|n| EVENT + INT_ZERO + n as u64);
     config(m)
 }
 
 // Machine `number` with its row: skips, the send of statement 1, and a skip behind it.
 fn working_machine(number: u32, count: usize) -> Room {
     let mut m = waiting_machine();
-    let this = Live(number);
-    m.this = this;
-    m.values[16] = 17179869184 + number as u64;
+    m.this = Live(number);
+    m.values[Program::THIS] = codes::code(Value::Id(Live(number)));
     m.count = count;
     m.parts[1] = 1;
     m
@@ -260,10 +213,9 @@ fn two_working() -> Config {
 // Writes a choice's machine and bits.
 fn write_choice(rt: &impl Print, x: u32) -> io::Result<()> {
     rt.print(" ")?;
-    let machine = choices::machine_of(x);
-    write_number(rt, machine.0 as u64)?;
+    write_number(rt, u64::from(choices::machine_of(x).0))?;
     rt.print(":")?;
-    write_number(rt, choices::bits_of(x) as u64)
+    write_number(rt, u64::from(choices::bits_of(x)))
 }
 
 // A row whose call gives a regrouped list.
@@ -271,16 +223,15 @@ fn regroup_row(rt: &impl Print, k: u64, program: Program, c: Config) -> io::Resu
     write_row(rt, k)?;
     let list: [u32; 7] = [257, 514, 259, 516, 261, 518, 263];
     let mut out: [u32; 7] = [0; 7];
-    let answer = grouping::regroup(program, c, &list, &mut out);
+    let answer = match grouping::regroup(program, c, &list, &mut out) {
+        Ok(()) => Answer::Done,
+        Err(answer) => answer,
+    };
     rt.print("answer ")?;
-    write_number(rt, number(answer) as u64)?;
-    write_choice(rt, out[0])?;
-    write_choice(rt, out[1])?;
-    write_choice(rt, out[2])?;
-    write_choice(rt, out[3])?;
-    write_choice(rt, out[4])?;
-    write_choice(rt, out[5])?;
-    write_choice(rt, out[6])?;
+    write_number(rt, u64::from(number(answer)))?;
+    for choice in out {
+        write_choice(rt, choice)?;
+    }
     rt.print("\n")
 }
 
@@ -289,14 +240,14 @@ fn table(rt: &impl Print) -> io::Result<()> {
     value_row(
         rt,
         1,
-        values::apply2(Binary::Add, Value::Int(2147483647), Value::Int(1)),
+        values::apply2(Binary::Add, Value::Int(i32::MAX), Value::Int(1)),
     )?;
     value_row(
         rt,
         2,
-        values::apply2(Binary::Add, Value::Int(2147483647), Value::Int(0)),
+        values::apply2(Binary::Add, Value::Int(i32::MAX), Value::Int(0)),
     )?;
-    value_row(rt, 3, values::apply1(Unary::Neg, Value::Int(-2147483648)))?;
+    value_row(rt, 3, values::apply1(Unary::Neg, Value::Int(i32::MIN)))?;
     value_row(
         rt,
         4,

@@ -1,9 +1,12 @@
 -- A program written into the tables of crates/tables, line by line, and what a text is loaded as. A number that its word cannot hold is written as the largest
 -- that it can; no table of any program has so many rows, so what the number names is absent either way.
-use Rattle.std.specs.Prelude.{ℕ, ◌+◌, min, Bool, cond, ◌&&◌, List, [], ◌∷◌, ◌++◌, map, eqb, length, replicate}
+use Rattle.std.specs.Prelude as std
+use Rattle.std.specs.Prelude.{ℕ, ◌+◌, min, Bool, cond, ◌&&◌, List, [], ◌∷◌, ◌++◌, map, eqb, length, replicate, ◌≡◌, refl, Ok, Err}
+use Rattle.std.proofs.Common.{ap, sym}
 use Rattle.lists.specs.Lists.{any, all, there, flat}
 use Rattle.rows.specs.Pad.{pad}
 use Rattle.rows.specs.Seek.{table}
+use Rattle.answers.specs.declared.Answer.{Answer}
 use Rattle.answers.specs.declared.Answer.TheVariants.{Done}
 use Rattle.values.specs.declared.Ty.{Ty}
 use Rattle.values.specs.declared.Ty.TheVariants.{Void as void, Bool as bool, Int as int, Event as event, Id as id}
@@ -22,7 +25,8 @@ use Rattle.machines.specs.Config.{Choice}
 use Rattle.choices.specs.Choices.{choice_word}
 use Rattle.texts.specs.Reading.{Result, loaded, refused}
 use Rattle.texts.specs.Answered.{answered}
-use Rattle.tabled.specs.declared.Loaded.{Loaded}
+use Rattle.tabled.specs.declared.Loaded.{Loaded as Text}
+use Rattle.answers.specs.declared.Refusal.{Refusal}
 
 -- NUMBERS
 -- in a word of 8 bits
@@ -186,6 +190,15 @@ abbrev pub no_program : Program
 no_program = record { events = []; machines = 0; variables = []; exprs = []; stmts = []; actions = []; states = []; steps = []; calls = []; acts = []; start = 0 }
 
 -- WHAT A TEXT IS LOADED AS: "on a refusal nothing is loaded"
+pub record Loaded : Type 0 where
+  pub answer : Answer
+  -- the faulty line; 0 at the answers 0, 1 and 9
+  pub line : ℕ
+  -- on a refusal the program of no lines, and no choices
+  pub program : Tables
+  pub choices : List ℕ
+  pub count : ℕ
+
 abbrev pub loaded_as : Result → Loaded
 loaded_as (loaded p c) = record { answer = Done; line = 0; program = tabled p; choices = choice_table c; count = length c }
 loaded_as (refused a k) = record { answer = a; line = k; program = tabled no_program; choices = choice_table []; count = 0 }
@@ -193,3 +206,33 @@ loaded_as (refused a k) = record { answer = a; line = k; program = tabled no_pro
 -- of the text
 unfoldable pub load_of : List ℕ → Loaded
 load_of t = loaded_as (answered t)
+
+-- WHAT THE LOADER ANSWERS: the tables and the choices, or the refusal
+abbrev pub loads : Result → std.Result Text Refusal
+loads (loaded p c) = Ok (record { program = tabled p; choices = choice_table c; count = length c })
+loads (refused a k) = Err (record { answer = a; line = k })
+
+-- what that is loaded as
+abbrev pub handed : std.Result Text Refusal → Loaded
+handed (Ok l) = record { answer = Done; line = 0; program = l.program; choices = l.choices; count = l.count }
+handed (Err r) = record { answer = r.answer; line = r.line; program = tabled no_program; choices = choice_table []; count = 0 }
+
+-- the same
+pub handed_loads : (r : Result) → handed (loads r) ≡ loaded_as r
+handed_loads (loaded p c) = refl
+handed_loads (refused a k) = refl
+
+-- of the text
+pub loads_of : (t : List ℕ) → handed (loads (answered t)) ≡ load_of t
+unfolding load_of
+loads_of t = handed_loads (answered t)
+
+-- a refusal is what the text is refused with
+pub loads_refused : (r : Result) (e : Refusal) → Err e ≡ loads r → r ≡ refused e.answer e.line
+loads_refused (loaded p c) e h = cc
+loads_refused (refused a k) e h = let q : e ≡ record { answer = a; line = k } = cc in λ i. refused (sym (ap (λ (x : Refusal). x.answer) q) i) (sym (ap (λ (x : Refusal). x.line) q) i)
+
+-- and what is loaded is the text's program and choices
+pub loads_loaded : (r : Result) (l : Text) → Ok l ≡ loads r → (p : Program) × (c : List Choice) × (r ≡ loaded p c)
+loads_loaded (loaded p c) l h = (p, c, refl)
+loads_loaded (refused a k) l h = cc

@@ -1,15 +1,12 @@
-// What a text is loaded as: the program's tables and the choices as numbers, or an answer and a line. What each number is stands in specs/Tabled.antt.
+// What a text is loaded as: the program's tables and the choices as numbers. What each number is stands in specs/Tabled.antt.
 #![tactic(auto)]
 
-use answers::Answer;
 use tables::Program;
 
+// The program, and the choices: how many they are.
+// stays: no heap, fixed memory: the array, and how many places of it are used
 #[derive(Clone, Copy)]
 pub struct Loaded {
-    pub answer: Answer,
-    // the faulty line; 0 at the answers 0, 1 and 9
-    pub line: usize,
-    // on a refusal the program of no lines, and no choices
     pub program: Program,
     pub choices: [u32; Program::CHOICES],
     pub count: usize,

@@ -1,10 +1,12 @@
 -- Laws of a table that is given row by row, and of a word that names no row.
-use Rattle.std.specs.Prelude.{◌≡◌, refl, List, ◌∷◌, length, get_or}
-use Rattle.std.proofs.Common.{sym, arith}
+use Rattle.std.specs.Prelude.{◌≡◌, refl, true, false, List, ◌∷◌, length, get_or}
+use Rattle.std.proofs.Common.{sym, ◌∙◌, ⊎_elim, true≢false, arith}
 use Prim.Native.Nat.{ℕ, zero, suc, ◌+◌, ◌-◌, ◌≤◌, ◌<◌}
 use Rattle.std.proofs.Math.ListN.{get_or-eq_default}
-use Rattle.lists.specs.Lists.{at, All}
+use Rattle.lists.specs.Lists.{at, All, there}
+use Rattle.lists.specs.Tells.{there_is}
 use Rattle.rows.specs.Seek.{table, table_length, table_at}
+use Rattle.rows.specs.Pad.{below?}
 
 -- A table of n rows, where m is n.
 module _ {A : Type 0} (f : ℕ → A) (d : A) {m n e : ℕ} (count : m ≡ n) where
@@ -21,16 +23,32 @@ module _ {A : Type 0} (f : ℕ → A) (d : A) {m n e : ℕ} (count : m ≡ n) wh
   pub at_past : m < e → at d (table f 1 n) e ≡ d
   at_past h = get_or-eq_default (d ∷ table f 1 n) d {n = e} (omega (arith, table_length f 1 n))
 
+-- 0 is absent
+pub at_zero : {A : Type 0} (d : A) (l : List A) {e : ℕ} → e ≤ 0 → at d l e ≡ d
+at_zero d l {e = zero} h = refl
+at_zero d l {e = suc e} h = absurd (omega arith)
+
+-- The same by the test of a number.
+module _ {A : Type 0} (f : ℕ → A) (d : A) {m n : ℕ} (e : ℕ) (count : m ≡ n) where
+  -- a number that is there
+  pub at_there : there m e ≡ true → at d (table f 1 n) e ≡ f e
+  at_there t = let h = (there_is m e).holds t in at_row f d count (omega arith) h.1
+
+  -- one that is not
+  pub at_absent : there m e ≡ false → at d (table f 1 n) e ≡ d
+  at_absent t = ⊎_elim
+      (λ (h : 0 < e). ⊎_elim
+      (λ (k : m < e). at_past f d {e = e} count k)
+      (λ (k : e ≤ m). absurd (true≢false (sym ((there_is m e).test (h, k)) ∙ t)))
+      (below? m e))
+      (λ (h : e ≤ 0). at_zero d (table f 1 n) {e = e} h)
+      (below? 0 e)
+
 -- what holds of each row from k on holds of a table of them
 pub table_all : {A : Type 0} (P : A → Type 0) (f : ℕ → A) (k n : ℕ) → ((i : ℕ) → k ≤ i → i < k + n → P (f i)) → All P (table f k n)
 unfolding table
 table_all P f k zero h = tt
 table_all P f k (suc n) h = (h k (omega arith) (omega arith), table_all P f (k + 1) n (λ i a b. h i (omega arith) (omega arith)))
-
--- 0 is absent
-pub at_zero : {A : Type 0} (d : A) (l : List A) {e : ℕ} → e ≤ 0 → at d l e ≡ d
-at_zero d l {e = zero} h = refl
-at_zero d l {e = suc e} h = absurd (omega arith)
 
 -- WORDS that name no kind
 -- k is none of 1 to n, as a `match` on k with n arms leaves it

@@ -3,15 +3,17 @@
 use Prim.Native.Nat.{ℕ, zero, suc, ◌+◌, ◌-◌, ◌*◌, ◌≤◌, ◌<◌, min}
 use Rattle.std.specs.Prelude.{◌≡◌, ◌⊎◌, Bool, List, ◌∷◌, map, length, get_or}
 use Rattle.std.proofs.Math.Path.{refl}
-use Rattle.std.proofs.Common.{ap, ◌∙◌, arith}
+use Rattle.std.proofs.Common.{ap, sym, ◌∙◌, true≢false, arith}
 use Rattle.std.proofs.Math.Logic.{inl, inr, ⊎_elim}
 use Rattle.std.proofs.Math.Bool.{true, false}
 use borrow.Author.Tests.{eqb-true, eqb-false, ne_eqb}
 use Rattle.std.proofs.Math.Dec.{eqb}
 use Rattle.std.proofs.lemmas.List.{length-map}
 use Rattle.std.proofs.Math.ListN.{get_or-map}
-use Rattle.lists.specs.Lists.{at, push, keep, any}
+use Rattle.lists.specs.Lists.{at, push, keep, any, there}
 use Rattle.lists.specs.Facts.{eqb_same}
+use Rattle.lists.specs.Tells.{there_is}
+use Rattle.rows.specs.Pad.{below?}
 use Rattle.rows.specs.Seek.{table, table_length, table_get}
 use Rattle.programs.specs.Sizes.{KINDS, EVENTS, VARIABLES, EXPRS, STMTS, ACTIONS, STATES}
 use Rattle.programs.specs.Program.{skip, event_type, variable_at, expr_at, stmt_at, Body, Entry, Exit, Deferred}
@@ -167,3 +169,17 @@ module _ (flags : List ℕ) (n e : ℕ) where
   pub deferred_past : EVENTS < e → any (eqb e) (defer_of flags n) ≡ false
   unfolding defer_of
   deferred_past h = kept_none (flag flags n) e 1 EVENTS (inr (omega arith))
+
+  -- The same by the test of the event's number.
+  pub deferred_there : there EVENTS e ≡ true → any (eqb e) (defer_of flags n) ≡ flag flags n e
+  deferred_there t = let h = (there_is EVENTS e).holds t in deferred_flag (omega arith) h.1
+
+  -- an event that is not there
+  pub deferred_absent : there EVENTS e ≡ false → any (eqb e) (defer_of flags n) ≡ false
+  deferred_absent t = ⊎_elim
+      (λ (h : 0 < e). ⊎_elim
+      (λ (k : EVENTS < e). deferred_past k)
+      (λ (k : e ≤ EVENTS). absurd (true≢false (sym ((there_is EVENTS e).test (h, k)) ∙ t)))
+      (below? EVENTS e))
+      (λ (h : e ≤ 0). deferred_zero h)
+      (below? 0 e)

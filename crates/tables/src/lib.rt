@@ -3,20 +3,21 @@
 // reads, and no others.
 #![tactic(auto)]
 
-ghost use Rattle.std.specs.Prelude.{◌≡◌, List, ℕ, ◌+◌, ◌-◌, ◌*◌, min, eqb};
+ghost use Rattle.std.specs.Prelude.{◌≡◌, List, ℕ, ◌+◌, ◌-◌, ◌*◌, ◌<◌, min, cond, eqb, length, get_or};
 ghost use Rattle.lists.specs.Lists.{at, any, there};
 ghost use Rattle.values.specs.declared.Ty.TheVariants.{Void as void};
 ghost use Rattle.programs.specs.Sizes.{KINDS, EVENTS, VARIABLES, EXPRS, STMTS, ACTIONS, STATES};
-ghost use Rattle.tables.specs.Decode.{MOVES, count, ty_of, events_of, variables_of, actions_of, states_of, no_variable, no_action, no_state};
+ghost use Rattle.tables.specs.Decode.{MOVES, move_in, count, ty_of, events_of, variables_of, actions_of, states_of, no_variable, no_action, no_state};
 
 use values::Ty;
 
 // A machine kind's number: the wrapping keeps it apart from a live machine's.
 #[repr(C)]
-#[derive(Clone, Copy)]
+#[derive(Clone, Copy, Debug, PartialEq, Eq)]
 pub struct Kind(pub u8);
 
 // What each number means stands in specs/Decode.antt. Where several arrays are one table, the count is in place 0 of the one that names the kinds.
+// stays: the C interface: it is lent as it lies, with its counts in its arrays and its 0 for none
 #[repr(C)]
 #[derive(Clone, Copy)]
 pub struct Program {
@@ -59,6 +60,13 @@ impl Program {
 
     pub const ALL_VARIABLES: usize = Program::KINDS * Program::VARIABLES;
 
+    // where a machine's this, msg and arg stand, behind its variables
+    pub const THIS: usize = Program::VARIABLES;
+
+    pub const MSG: usize = Program::VARIABLES + 1;
+
+    pub const ARG: usize = Program::VARIABLES + 2;
+
     pub const EXPRESSIONS: usize = 1024;
 
     pub const STATEMENTS: usize = 1024;
@@ -89,8 +97,16 @@ impl Program {
     pub const LIVE_NUMBERS: usize = 65536;
 }
 
+// A row of the moves: from a state, on an event, to a state or an action.
+#[derive(Clone, Copy, Debug, PartialEq, Eq)]
+pub struct Move {
+    pub from: u8,
+    pub on: u8,
+    pub to: u8,
+}
+
 // A statement without its init list.
-#[derive(Clone, Copy)]
+#[derive(Clone, Copy, Debug, PartialEq, Eq)]
 pub enum Head {
     Skip,
     // variable, expression
@@ -115,122 +131,101 @@ pub enum Head {
 }
 
 // A number that does not fit a byte reads as the largest that does.
+// stays: no plainer: std has no cut to a narrower type, and the name says which is meant
 pub fn byte(x: u16) -> u8
     ensures { result ≡ min x 255 }
 {
-    if x <= 255 { x as u8 } else { 255 }
-}
-
-// A number of 16 bits, as an index.
-pub fn wide(x: u16) -> usize
-    ensures { result ≡ x }
-{
-    x as usize
-}
-
-// A byte, as an index.
-pub fn index(x: u8) -> usize
-    ensures { result ≡ x }
-{
-    x as usize
+    u8::try_from(x).unwrap_or(u8::MAX)
 }
 
 // Whether number n is there in a table of the size given.
 pub fn there(size: usize, n: usize) -> bool
     ensures { result ≡ there size n }
 {
-    if n < 1 {
-        return false;
-    }
-    n <= size
+    (1..=size).contains(&n)
 }
 
 // How many rows there are of n from row a on, from 0: no more than a table of the size given has.
 pub fn rows_from(size: usize, a: usize, n: usize) -> usize
     ensures { result ≡ min n (size - a) }
 {
-    if size <= a {
-        return 0;
-    }
-    if n <= size - a { n } else { size - a }
+    n.min(size.saturating_sub(a))
 }
 
 // The row behind a moves and b more: no further than the table's end.
 pub fn row_after(a: usize, b: usize) -> usize
     ensures { result ≡ min (a + b) MOVES }
 {
-    if Program::MOVES <= a {
-        return Program::MOVES;
-    }
-    if b <= Program::MOVES - a {
-        a + b
+    a.saturating_add(b).min(Program::MOVES)
+}
+
+// The move in row r, from 0; behind the last row it is of zeros.
+pub fn move_at(moves: &[u8; 3 * Program::MOVES], r: usize) -> Move
+    ensures from { result.from ≡ (move_in moves.now r).from }
+    ensures on { result.on ≡ (move_in moves.now r).on }
+    ensures to { result.to ≡ (move_in moves.now r).to }
+{
+    if r < Program::MOVES {
+        Move {
+            from: moves[r * 3],
+            on: moves[r * 3 + 1],
+            to: moves[r * 3 + 2],
+        }
     } else {
-        Program::MOVES
+        Move {
+            from: 0,
+            on: 0,
+            to: 0,
+        }
     }
-}
-
-// How many rows a table has: its count, and no more than its size.
-fn count8(n: u8, size: usize) -> usize
-    ensures { result ≡ min n size }
-{
-    if n as usize <= size { n as usize } else { size }
-}
-
-fn count16(n: u16, size: usize) -> usize
-    ensures { result ≡ min n size }
-{
-    if n as usize <= size { n as usize } else { size }
-}
-
-fn count32(n: u32, size: usize) -> usize
-    ensures { result ≡ min n size }
-{
-    if n as usize <= size { n as usize } else { size }
 }
 
 // How many events there are.
+// stays: no plainer: a count names its table and its size, as its callers' clauses do, and is one line; so the five below
 pub fn event_count(types: &[u8; Program::EVENTS + 1]) -> usize
     ensures { result ≡ count EVENTS types.now }
 {
-    count8(types[0], Program::EVENTS)
+    usize::from(types[0]).min(Program::EVENTS)
 }
 
 // How many variables there are.
 pub fn variable_count(kinds: &[u16; Program::ALL_VARIABLES + 1]) -> usize
     ensures { result ≡ count (KINDS * VARIABLES) kinds.now }
 {
-    count16(kinds[0], Program::ALL_VARIABLES)
+    usize::from(kinds[0]).min(Program::ALL_VARIABLES)
 }
 
 // How many expressions there are.
 pub fn expr_count(exprs: &[u32; 3 * (Program::EXPRESSIONS + 1)]) -> usize
     ensures { result ≡ count EXPRS exprs.now }
 {
-    count32(exprs[0], Program::EXPRESSIONS)
+    (exprs[0] as usize).min(Program::EXPRESSIONS)
 }
 
 // How many statements there are.
 pub fn stmt_count(stmts: &[u16; 5 * (Program::STATEMENTS + 1)]) -> usize
     ensures { result ≡ count STMTS stmts.now }
 {
-    count16(stmts[0], Program::STATEMENTS)
+    usize::from(stmts[0]).min(Program::STATEMENTS)
 }
 
 // How many actions there are.
 pub fn action_count(kinds: &[u8; Program::ACTIONS + 1]) -> usize
     ensures { result ≡ count ACTIONS kinds.now }
 {
-    count8(kinds[0], Program::ACTIONS)
+    usize::from(kinds[0]).min(Program::ACTIONS)
 }
 
 // How many states there are.
 pub fn state_count(kinds: &[u8; Program::STATES + 1]) -> usize
     ensures { result ≡ count STATES kinds.now }
 {
-    count8(kinds[0], Program::STATES)
+    usize::from(kinds[0]).min(Program::STATES)
 }
 
 // The type that a word names.
+// stays: no plainer: a From would have to stand with the type, in crates/values, away from the tables that number the types
+#[tactic(auto, unfolding(crate::specs::Decode::ty_of))]
 fn ty_of(k: u8) -> Ty
     ensures { result ≡ ty_of k }
 {
@@ -243,32 +238,26 @@ fn ty_of(k: u8) -> Ty
     }
 }
 
+// Row n of a column, where a table of the size given has it, or else none.
+fn row_or<T: Copy>(size: usize, column: &[T], n: usize, none: T) -> T
+    requires { size < length column.now }
+    ensures { result ≡ cond (there size n) (get_or column.now n none) none }
+{
+    if there(size, n) { column[n] } else { none }
+}
+
 // The type of event e's payload.
 pub fn event_type(types: &[u8; Program::EVENTS + 1], e: usize) -> Ty
     ensures { result ≡ at void (events_of types.now) e }
 {
-    let n = event_count(types);
-    if 0 < e {
-        if e <= n {
-            let k = types[e];
-            return ty_of(k);
-        }
-    }
-    Ty::Void
+    ty_of(row_or(event_count(types), types, e, 0))
 }
 
 // The kind that variable x belongs to.
 pub fn variable_kind(kinds: &[u16; Program::ALL_VARIABLES + 1], x: usize) -> Kind
     ensures { (types : List ℕ) → result.0 ≡ (at no_variable (variables_of kinds.now types) x).of }
 {
-    let n = variable_count(kinds);
-    if 0 < x {
-        if x <= n {
-            let k = kinds[x];
-            return Kind(byte(k));
-        }
-    }
-    Kind(0)
+    Kind(byte(row_or(variable_count(kinds), kinds, x, 0)))
 }
 
 // The type of variable x.
@@ -279,28 +268,14 @@ pub fn variable_type<'a>(
 ) -> Ty
     ensures { result ≡ (at no_variable (variables_of kinds.now types.now) x).type }
 {
-    let n = variable_count(kinds);
-    if 0 < x {
-        if x <= n {
-            let k = types[x];
-            return ty_of(k);
-        }
-    }
-    Ty::Void
+    ty_of(row_or(variable_count(kinds), types, x, 0))
 }
 
 // The kind that action a belongs to.
 pub fn action_kind(kinds: &[u8; Program::ACTIONS + 1], a: usize) -> Kind
     ensures { (bodies : List ℕ) → result.0 ≡ (at no_action (actions_of kinds.now bodies) a).of }
 {
-    let n = action_count(kinds);
-    if 0 < a {
-        if a <= n {
-            let k = kinds[a];
-            return Kind(k);
-        }
-    }
-    Kind(0)
+    Kind(row_or(action_count(kinds), kinds, a, 0))
 }
 
 // The statement of action a.
@@ -311,27 +286,14 @@ pub fn body_of<'a>(
 ) -> u16
     ensures { result ≡ (at no_action (actions_of kinds.now bodies.now) a).body }
 {
-    let n = action_count(kinds);
-    if 0 < a {
-        if a <= n {
-            return bodies[a];
-        }
-    }
-    0
+    row_or(action_count(kinds), bodies, a, 0)
 }
 
 // The kind that state n belongs to.
 pub fn state_kind(kinds: &[u8; Program::STATES + 1], n: usize) -> Kind
     ensures { (entries exits flags : List ℕ) → result.0 ≡ (at no_state (states_of kinds.now entries exits flags) n).of }
 {
-    let m = state_count(kinds);
-    if 0 < n {
-        if n <= m {
-            let k = kinds[n];
-            return Kind(k);
-        }
-    }
-    Kind(0)
+    Kind(row_or(state_count(kinds), kinds, n, 0))
 }
 
 // The entry statement of state n.
@@ -342,13 +304,7 @@ pub fn entry_of<'a>(
 ) -> u16
     ensures { (exits flags : List ℕ) → result ≡ (at no_state (states_of kinds.now entries.now exits flags) n).entry }
 {
-    let m = state_count(kinds);
-    if 0 < n {
-        if n <= m {
-            return entries[n];
-        }
-    }
-    0
+    row_or(state_count(kinds), entries, n, 0)
 }
 
 // The exit statement of state n.
@@ -359,13 +315,7 @@ pub fn exit_of<'a>(
 ) -> u16
     ensures { (entries flags : List ℕ) → result ≡ (at no_state (states_of kinds.now entries exits.now flags) n).exit }
 {
-    let m = state_count(kinds);
-    if 0 < n {
-        if n <= m {
-            return exits[n];
-        }
-    }
-    0
+    row_or(state_count(kinds), exits, n, 0)
 }
 
 // State n defers event e.
@@ -377,15 +327,7 @@ pub fn defers<'a>(
 ) -> bool
     ensures { (entries exits : List ℕ) → result ≡ any (eqb e) (at no_state (states_of kinds.now entries exits flags.now) n).defer }
 {
-    let m = state_count(kinds);
-    if 0 < n {
-        if n <= m {
-            if 0 < e {
-                if e <= Program::EVENTS {
-                    return flags[n * (Program::EVENTS + 1) + e] != 0;
-                }
-            }
-        }
-    }
-    false
+    there(state_count(kinds), n)
+        && there(Program::EVENTS, e)
+        && flags[n * (Program::EVENTS + 1) + e] != 0
 }

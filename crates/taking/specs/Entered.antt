@@ -1,5 +1,5 @@
 -- One more variable, counted among those of its kind, and put into the tables or noted as the first whose kind is not there.
-use Rattle.std.specs.Prelude.{ℕ, ◌+◌, ◌≤◌, ◌<◌, ◌≡◌, true, false, cond, eqb, length, get_or, set, List, [], ◌∷◌, ◌++◌}
+use Rattle.std.specs.Prelude.{ℕ, ◌+◌, ◌≤◌, ◌<◌, ◌≡◌, true, false, cond, eqb, length, get_or, set, List, [], ◌∷◌, ◌++◌, Option, None, Some}
 use Rattle.std.proofs.Common.{sym, ◌∙◌, add-zero, arith, eq-eqb, ne_eqb, length-set, get_or-set_same, get_or-set_other}
 use Rattle.std.proofs.Math.Logic.{dite}
 use Rattle.std.proofs.Math.Decide.{ℕ_discrete}
@@ -35,15 +35,15 @@ module _ {rooms : List ℕ} (h : Countable rooms) (k : ℕ) where
   count_left l = record { size = h.size; each = λ j b. rw (ne_eqb k j (λ q. omega arith)) (sym (add-zero (get_or rooms j 0))) }
 
 -- what is asked of the tables: where it is put, there is room for it
-abbrev pub EnterAsked : ℕ → ℕ → List ℕ → List ℕ → ℕ → Type 0
-EnterAsked ms k owners holds absent = absent ≡ 0 → there ms k ≡ true → VariableRoom owners holds
+abbrev pub EnterAsked : ℕ → ℕ → List ℕ → List ℕ → Option ℕ → Type 0
+EnterAsked ms k owners holds absent = absent ≡ None → there ms k ≡ true → VariableRoom owners holds
 
 -- what comes of variable i, of kind k and the type at t
-pub record Entered (ms k t i : ℕ) (owners holds : List ℕ) (absent : ℕ) (owners' holds' : List ℕ) (absent' : ℕ) : Type 0 where
+pub record Entered (ms k t i : ℕ) (owners holds : List ℕ) (absent : Option ℕ) (owners' holds' : List ℕ) (absent' : Option ℕ) : Type 0 where
   -- behind the first whose kind is not there
-  pub behind : (absent ≡ 0 → ⊥) → (absent' ≡ absent) × ((owners' ≡ owners) × (holds' ≡ holds))
+  pub behind : (j : ℕ) → absent ≡ Some j → (absent' ≡ absent) × ((owners' ≡ owners) × (holds' ≡ holds))
   -- as the first
-  pub noted : absent ≡ 0 → there ms k ≡ false → (absent' ≡ i) × ((owners' ≡ owners) × (holds' ≡ holds))
+  pub noted : absent ≡ None → there ms k ≡ false → (absent' ≡ Some i) × ((owners' ≡ owners) × (holds' ≡ holds))
   -- as one whose kind is there
-  pub put : absent ≡ 0 → there ms k ≡ true
-      → (absent' ≡ 0) × ((h : VariableRoom owners holds) (v : Variable) → word_of v.of ≡ word_of k → ty_code v.type ≡ t → VariableTables (h.rows ++ v ∷ []) owners' holds')
+  pub put : absent ≡ None → there ms k ≡ true
+      → (absent' ≡ None) × ((h : VariableRoom owners holds) (v : Variable) → word_of v.of ≡ word_of k → ty_code v.type ≡ t → VariableTables (h.rows ++ v ∷ []) owners' holds')

@@ -1,8 +1,6 @@
 -- One more variable: what the code tests is what is asked of the line, there is room for it where its kind is there, and what the arrays hold with it.
-use Rattle.std.specs.Prelude.{ℕ, zero, suc, ◌+◌, ◌-◌, ◌*◌, ◌≤◌, ◌<◌, min, ◌≡◌, refl, Bool, true, false, not, ◌&&◌, ◌||◌, List, [], ◌∷◌, ◌++◌, eqb, ltb, length, take, get_or}
+use Rattle.std.specs.Prelude.{ℕ, zero, suc, ◌+◌, ◌-◌, ◌*◌, ◌≤◌, ◌<◌, min, ◌≡◌, refl, Bool, true, false, not, ◌&&◌, ◌||◌, List, [], ◌∷◌, ◌++◌, eqb, ltb, length, take, get_or, Option, None, Some}
 use Rattle.std.proofs.Common.{ap, sym, ◌∙◌, add-one, arith, eqb-true, eq-eqb, ne_eqb, ltb-true, length-append}
-use Rattle.std.proofs.Math.Logic.{dite}
-use Rattle.std.proofs.Math.Decide.{ℕ_discrete}
 use Rattle.std.proofs.Math.ListN.{get_or-append}
 use Rattle.std.proofs.Math.Seq.{take-append_seam, get_or-append_seam}
 use Rattle.std.proofs.lemmas.List.{take-append-le}
@@ -46,7 +44,7 @@ few_snoc ms vs v few space k b = go (eqb v.of k) refl
 abbrev of_these : ℕ → List Variable → Program
 of_these ms vs = record { events = []; machines = ms; variables = vs; exprs = []; stmts = []; actions = []; states = []; steps = []; calls = []; acts = []; start = 0 }
 
-module _ {vs : List Variable} {ms : ℕ} {owners holds rooms : List ℕ} {n absent : ℕ} (h : VariablesHeld vs ms owners holds rooms n absent) where
+module _ {vs : List Variable} {ms : ℕ} {owners holds rooms : List ℕ} {n : ℕ} {absent : Option ℕ} (h : VariablesHeld vs ms owners holds rooms n absent) where
   -- ITS OWN NUMBER i, which the code has as x
   -- another is out of sequence,
   pub number_other : n < TEXT → {i j x : ℕ} → j ≡ i → x ≡ min j CAP → (x ≡ n + 1 → ⊥) → (b : Bool) → eqb i (length vs + 1) && b ≡ false
@@ -67,7 +65,7 @@ module _ {vs : List Variable} {ms : ℕ} {owners holds rooms : List ℕ} {n abse
         go false q = rw (cut_there ms CAP k (omega arith), q)
 
     -- where every kind is there and one more of kind k has room, the tables have
-    space : absent ≡ 0 → (k : ℕ) → There ms k → length (keep (is_of k) vs) < VARIABLES → length vs < KINDS * VARIABLES
+    space : absent ≡ None → (k : ℕ) → There ms k → length (keep (is_of k) vs) < VARIABLES → length vs < KINDS * VARIABLES
     space z k b l =
         let v : Variable = record { of = k; type = bool } in
         omega (arith, length-append vs (v ∷ []), few_variables (of_these ms (vs ++ v ∷ [])) m (few_snoc ms vs v h.few (λ t. l)) (All-append (λ w. There ms w.of) vs (v ∷ []) (h.there z) (b, tt)))
@@ -98,8 +96,8 @@ at_snoc vs v j h = get_or-append (no_variable ∷ vs) (v ∷ []) no_variable j (
 at_last : (vs : List Variable) (v : Variable) → at no_variable (vs ++ v ∷ []) (length vs + 1) ≡ v
 at_last vs v = rw add-one (get_or-append_seam (no_variable ∷ vs) v [] no_variable)
 
-module _ {vs : List Variable} {ms : ℕ} {owners holds rooms : List ℕ} {n absent : ℕ} (h : VariablesHeld vs ms owners holds rooms n absent) (m : ms ≤ KINDS) (v : Variable)
-    {x t : ℕ} {owners' holds' rooms' : List ℕ} {absent' : ℕ} (cut : x ≡ min v.of CAP) (type : ty_code v.type ≡ t) (spare : room ms v.of vs ≡ true)
+module _ {vs : List Variable} {ms : ℕ} {owners holds rooms : List ℕ} {n : ℕ} {absent : Option ℕ} (h : VariablesHeld vs ms owners holds rooms n absent) (m : ms ≤ KINDS) (v : Variable)
+    {x t : ℕ} {owners' holds' rooms' : List ℕ} {absent' : Option ℕ} (cut : x ≡ min v.of CAP) (type : ty_code v.type ≡ t) (spare : room ms v.of vs ≡ true)
     (entered : Entered ms x t (n + 1) owners holds absent owners' holds' absent')
     (counted : Counted x rooms rooms') where
   -- its kind has room, if it is there
@@ -118,58 +116,65 @@ module _ {vs : List Variable} {ms : ℕ} {owners holds rooms : List ℕ} {n abse
 
   -- what has come of it
   data Come : Type 0 where
-    behind : (absent ≡ 0 → ⊥) → absent' ≡ absent → (owners' ≡ owners) × (holds' ≡ holds) → Come
-    noted : absent ≡ 0 → (There ms v.of → ⊥) → absent' ≡ n + 1 → (owners' ≡ owners) × (holds' ≡ holds) → Come
-    put : absent ≡ 0 → There ms v.of → absent' ≡ 0 → VariableTables (vs ++ v ∷ []) owners' holds' → Come
+    behind : (j : ℕ) → absent ≡ Some j → absent' ≡ absent → (owners' ≡ owners) × (holds' ≡ holds) → Come
+    noted : absent ≡ None → (There ms v.of → ⊥) → absent' ≡ Some (n + 1) → (owners' ≡ owners) × (holds' ≡ holds) → Come
+    put : absent ≡ None → There ms v.of → absent' ≡ None → VariableTables (vs ++ v ∷ []) owners' holds' → Come
 
   come : Come
-  come = dite (ℕ_discrete absent 0) (λ z. go z (there ms v.of) refl) (λ z. let p = entered.behind z in behind z p.0 p.1)
+  come = first absent refl
     where
-      go : absent ≡ 0 → (b : Bool) → there ms v.of ≡ b → Come
+      go : absent ≡ None → (b : Bool) → there ms v.of ≡ b → Come
       go z true e =
           let b = (there_is ms v.of).holds e in
           let p = entered.put z (found ∙ e) in
           put z b p.0 (p.1 (record { rows = vs; held = h.tables z; room = space h m z v.of b (roomy b) }) v (sym (ap word_of cut ∙ word_kept v.of)) type)
       go z false e = let p = entered.noted z (found ∙ e) in noted z (denied (there_is ms v.of) e) p.0 p.1
 
+      first : (a : Option ℕ) → absent ≡ a → Come
+      first None z = go z (there ms v.of) refl
+      first (Some j) z = let p = entered.behind j z in behind j z p.0 p.1
+
   -- the tables
-  tables_more : Come → absent' ≡ 0 → VariableTables (vs ++ v ∷ []) owners' holds'
-  tables_more (behind z e k) q = absurd (z (sym e ∙ q))
-  tables_more (noted z b e k) q = absurd (omega arith)
+  tables_more : Come → absent' ≡ None → VariableTables (vs ++ v ∷ []) owners' holds'
+  tables_more (behind j z e k) q = absurd (cc)
+  tables_more (noted z b e k) q = absurd (cc)
   tables_more (put z b e w) q = w
 
   -- the kinds that are there
-  there_more : Come → absent' ≡ 0 → All (λ w. There ms w.of) (vs ++ v ∷ [])
-  there_more (behind z e k) q = absurd (z (sym e ∙ q))
-  there_more (noted z b e k) q = absurd (omega arith)
+  there_more : Come → absent' ≡ None → All (λ w. There ms w.of) (vs ++ v ∷ [])
+  there_more (behind j z e k) q = absurd (cc)
+  there_more (noted z b e k) q = absurd (cc)
   there_more (put z b e w) q = All-append (λ u. There ms u.of) vs (v ∷ []) (h.there z) (b, tt)
 
   -- the first whose kind is not
-  first_more : Come → (absent' ≡ 0 → ⊥) → FirstAbsent (vs ++ v ∷ []) ms absent'
-  first_more (behind z e k) q =
-      let f = h.first z in
-      rw e (record {
+  first_more : Come → (i : ℕ) → absent' ≡ Some i → FirstAbsent (vs ++ v ∷ []) ms i
+  first_more (behind j z e k) i q =
+      let f = h.first i (sym e ∙ q) in
+      record {
         here = (f.here.0, omega (arith, f.here.1, length-append vs (v ∷ [])));
         lower = λ j a b. rw (at_snoc vs v j (omega (arith, f.here.1))) (f.lower j a b);
-        absent = rw (at_snoc vs v absent f.here.1) f.absent;
-      })
-  first_more (noted z b e k) q =
-      let i : absent' ≡ length vs + 1 = omega (arith, h.count) in
-      rw i (record {
+        absent = rw (at_snoc vs v i f.here.1) f.absent;
+      }
+  first_more (noted z b e k) i q =
+      let y : i ≡ n + 1 = cc in
+      let x : i ≡ length vs + 1 = omega (arith, h.count) in
+      rw x (record {
         here = (omega arith, omega (arith, length-append vs (v ∷ [])));
         lower = λ j a c. rw (at_snoc vs v j (omega arith)) (every_at (λ w. There ms w.of) no_variable vs j a (omega arith) (h.there z));
         absent = rw (at_last vs v) b;
       })
-  first_more (put z b e w) q = absurd (q e)
+  first_more (put z b e w) i q = absurd (cc)
 
   -- the tables in front of it
-  front_more : Come → (absent' ≡ 0 → ⊥) → VariableTables (take (absent' - 1) (vs ++ v ∷ [])) owners' holds'
-  front_more (behind z e k) q =
-      rw (e, k.0, k.1, take-append-le (absent - 1) vs (v ∷ []) (omega (arith, (h.first z).here.1))) (h.front z)
-  front_more (noted z b e k) q =
-      let i : absent' - 1 ≡ length vs = omega (arith, h.count) in
-      rw (i, k.0, k.1, take-append_seam vs (v ∷ [])) (h.tables z)
-  front_more (put z b e w) q = absurd (q e)
+  front_more : Come → (i : ℕ) → absent' ≡ Some i → VariableTables (take (i - 1) (vs ++ v ∷ [])) owners' holds'
+  front_more (behind j z e k) i q =
+      let a : absent ≡ Some i = sym e ∙ q in
+      rw (k.0, k.1, take-append-le (i - 1) vs (v ∷ []) (omega (arith, (h.first i a).here.1))) (h.front i a)
+  front_more (noted z b e k) i q =
+      let y : i ≡ n + 1 = cc in
+      let x : i - 1 ≡ length vs = omega (arith, h.count) in
+      rw (x, k.0, k.1, take-append_seam vs (v ∷ [])) (h.tables z)
+  front_more (put z b e w) i q = absurd (cc)
 
   -- all of it
   pub held_more : VariablesHeld (vs ++ v ∷ []) ms owners' holds' rooms' (n + 1) absent'

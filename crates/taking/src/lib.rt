@@ -2,9 +2,11 @@
 // values, and where a kind has several forms the number of the form; it is lent the arrays and numbers of its kind of line alone. It answers whether the line is
 // in range: where it is, the arrays have the line, where not, they are as they were. Besides the tables of the variables the loader has how many lines of variables
 // there are, how many of each kind, and the first whose kind is not there, from which on the tables are no longer written: specs/Variables.antt.
+// stays: may not change: line_at, which tells a line by the number of its form, `row` here, and the places of its values
+// stays: no heap, fixed memory: the moves and the choices are an array, and how many places of it are used: `n` and `count` here
 #![tactic(auto)]
 
-ghost use Rattle.std.specs.Prelude.{◌≡◌, not, ◌&&◌, ◌||◌, [], ◌∷◌, ◌++◌, ℕ, ◌+◌, ◌≤◌, min, ◌<◌, eqb, ltb, length, get_or};
+ghost use Rattle.std.specs.Prelude.{◌≡◌, Option, None, Some, not, ◌&&◌, ◌||◌, [], ◌∷◌, ◌++◌, ℕ, ◌+◌, ◌≤◌, min, ◌<◌, eqb, ltb, length, get_or};
 ghost use Rattle.lists.specs.Lists.{there};
 ghost use Rattle.values.specs.declared.Ty.{Ty};
 ghost use Rattle.programs.specs.Sizes.{KINDS, EVENTS, ACTIONS, TEXT, VARIABLES};
@@ -22,9 +24,10 @@ ghost use Rattle.taking.specs.Lines.{move_at};
 ghost use Rattle.taking.specs.Variables.{VariablesHeld, Variables, Kept};
 ghost use Rattle.taking.specs.Entered.{Countable, Counted, EnterAsked, Entered};
 
-use putting::{byte_of, put_action, put_choice, put_event, put_move, put_variable, word_of};
+use putting::{byte_of, put_action, put_choice, put_event, put_move, put_variable};
 use spoken::{is_next, number_at};
-use tables::Program;
+use tables::{Kind, Program, there};
+use terms::short;
 
 // An event.
 pub fn take_event(
@@ -38,9 +41,8 @@ pub fn take_event(
     ensures { (h : EventHeld types.old) (i : ℕ) (t : Ty) → line_at s.now places row ≡ event_line i t
         → Took result (next EVENTS (length h.rows) i) (types.new ≡ event_table (h.rows ++ t ∷ [])) (types.new ≡ types.old) }
 {
-    let at = places[0];
-    let n = types[0] as usize;
-    if !is_next(Program::EVENTS, n, number_at(s, at)) {
+    let n = usize::from(types[0]);
+    if !is_next(Program::EVENTS, n, number_at(s, places[0])) {
         return false;
     }
     put_event(types, row as u8);
@@ -52,23 +54,11 @@ pub fn take_machine(s: &[u8], places: [usize; 5], kinds: &mut usize) -> bool
     ensures { (i : ℕ) → line_at s.now places 5 ≡ machine_line i
         → Took result (next KINDS kinds.old i) (kinds.new ≡ kinds.old + 1) (kinds.new ≡ kinds.old) }
 {
-    let at = places[0];
-    let n = *kinds;
-    if !is_next(Program::KINDS, n, number_at(s, at)) {
+    if !is_next(Program::KINDS, *kinds, number_at(s, places[0])) {
         return false;
     }
-    *kinds = n + 1;
+    *kinds += 1;
     true
-}
-
-// Kind k is there.
-fn is_there(kinds: usize, k: u32) -> bool
-    ensures { result ≡ there kinds k }
-{
-    if k == 0 {
-        return false;
-    }
-    k as usize <= kinds
 }
 
 // There is room for one more variable of kind k: of a kind that is not there always.
@@ -76,10 +66,7 @@ fn in_room(kinds: usize, k: u32, rooms: &[usize; Program::KINDS + 1]) -> bool
     requires { kinds ≤ KINDS }
     ensures { result ≡ not (there kinds k) || ltb (get_or rooms.now k 0) VARIABLES }
 {
-    if !is_there(kinds, k) {
-        return true;
-    }
-    rooms[k as usize] < Program::VARIABLES
+    !there(kinds, k as usize) || rooms[k as usize] < Program::VARIABLES
 }
 
 // One more variable of kind k, which is counted where it can be there.
@@ -101,19 +88,19 @@ fn enter(
     i: usize,
     owners: &mut [u16; Program::ALL_VARIABLES + 1],
     holds: &mut [u8; Program::ALL_VARIABLES + 1],
-    absent: &mut usize,
+    absent: &mut Option<usize>,
 )
     requires { EnterAsked kinds k owners.old holds.old absent.old }
     ensures { Entered kinds k t i owners.old holds.old absent.old owners.new holds.new absent.new }
 {
-    if *absent != 0 {
+    if absent.is_some() {
         return;
     }
-    if !is_there(kinds, k) {
-        *absent = i;
+    if !there(kinds, k as usize) {
+        *absent = Some(i);
         return;
     }
-    put_variable(owners, holds, word_of(k), t);
+    put_variable(owners, holds, short(k), t);
 }
 
 // A variable.
@@ -126,7 +113,7 @@ pub fn take_variable(
     holds: &mut [u8; Program::ALL_VARIABLES + 1],
     rooms: &mut [usize; Program::KINDS + 1],
     variables: &mut usize,
-    absent: &mut usize,
+    absent: &mut Option<usize>,
 ) -> bool
     requires variables { Variables kinds owners.old holds.old rooms.old variables.old absent.old }
     requires le_row { (6 ≤ row) × (row ≤ 9) }
@@ -139,13 +126,11 @@ pub fn take_variable(
         (Kept owners.old holds.old rooms.old variables.old absent.old
         owners.new holds.new rooms.new variables.new absent.new) }
 {
-    let at = places[0];
-    let of = places[1];
     let n = *variables + 1;
-    if number_at(s, at) as usize != n {
+    if number_at(s, places[0]) as usize != n {
         return false;
     }
-    let k = number_at(s, of);
+    let k = number_at(s, places[1]);
     if !in_room(kinds, k, rooms) {
         return false;
     }
@@ -167,18 +152,16 @@ pub fn take_action(
         → Took result (next ACTIONS (length h.rows) i) (ActionTables (h.rows ++ a ∷ []) kinds.new bodies.new)
         ((kinds.new ≡ kinds.old) × (bodies.new ≡ bodies.old)) }
 {
-    let at = places[0];
-    let of = places[1];
-    let body = places[2];
-    let n = kinds[0] as usize;
-    if !is_next(Program::ACTIONS, n, number_at(s, at)) {
+    let [own, of, body, ..] = places;
+    let n = usize::from(kinds[0]);
+    if !is_next(Program::ACTIONS, n, number_at(s, own)) {
         return false;
     }
     put_action(
         kinds,
         bodies,
         byte_of(number_at(s, of)),
-        word_of(number_at(s, body)),
+        short(number_at(s, body)),
     );
     true
 }
@@ -196,9 +179,7 @@ pub fn take_move(
     ensures moves_after { (h : MoveRoom moves.old n) → moves.new ≡ move_table (h.rows ++ move_at s.now places ∷ []) }
     ensures count_after { count.new ≡ count.old + 1 }
 {
-    let from = places[0];
-    let on = places[1];
-    let to = places[2];
+    let [from, on, to, ..] = places;
     put_move(
         moves,
         n,
@@ -209,13 +190,12 @@ pub fn take_move(
     *count += 1;
 }
 
-// The kind that the program starts with: one more than it, so that 0 is none. It is always in range.
-pub fn take_start(s: &[u8], places: [usize; 5], start: &mut usize)
-    requires { start.old ≡ 0 }
-    ensures { (k : ℕ) → line_at s.now places 41 ≡ start_line k → start.new ≡ 1 + byte_of k }
+// The kind that the program starts with. It is always in range.
+pub fn take_start(s: &[u8], places: [usize; 5], start: &mut Option<Kind>)
+    requires { start.old ≡ None }
+    ensures { (k : ℕ) → line_at s.now places 41 ≡ start_line k → start.new ≡ Some (record { 0 = byte_of k }) }
 {
-    let at = places[0];
-    *start = 1 + byte_of(number_at(s, at)) as usize;
+    *start = Some(Kind(byte_of(number_at(s, places[0]))));
 }
 
 // The bits of a choice: those of a line without them are 0.
@@ -223,24 +203,18 @@ fn bits_at(s: &[u8], row: usize, places: [usize; 5]) -> u32
     requires { (42 ≤ row) × (row ≤ 43) }
     ensures { (c : Choice) → line_at s.now places row ≡ choice_line c → result ≡ min c.bits CAP }
 {
-    let at = places[1];
-    if row == 42 { number_at(s, at) } else { 0 }
+    if row == 42 {
+        number_at(s, places[1])
+    } else {
+        0
+    }
 }
 
 // A choice is in range behind n others.
 fn choosable(n: usize, machine: u32, bits: u32) -> bool
     ensures { result ≡ choosable n machine bits }
 {
-    if Program::CHOICES <= n {
-        return false;
-    }
-    if machine == 0 {
-        return false;
-    }
-    if Program::LIVE_NUMBERS <= machine as usize {
-        return false;
-    }
-    bits <= 255
+    n < Program::CHOICES && 0 < machine && (machine as usize) < Program::LIVE_NUMBERS && bits <= 255
 }
 
 // A choice.
@@ -258,8 +232,7 @@ pub fn take_choice(
         ((choices.new ≡ choice_table (h.rows ++ c ∷ [])) × (count.new ≡ count.old + 1))
         ((choices.new ≡ choices.old) × (count.new ≡ count.old)) }
 {
-    let at = places[0];
-    let machine = number_at(s, at);
+    let machine = number_at(s, places[0]);
     let bits = bits_at(s, row, places);
     let n = *count;
     if !choosable(n, machine, bits) {

@@ -1,5 +1,6 @@
 // An expression's line taken into the loader's array of expressions. A function is given the text, the number of the line's form and the places of its values, and
 // is lent the array. It answers whether the line is in range: where it is, the array has the line, where not, it is as it was.
+// stays: may not change: line_at, which tells a line by the number of its form, `row` here, and the places of its values
 #![tactic(auto)]
 
 ghost use Rattle.std.specs.Prelude.{◌≡◌, Bool, ◌&&◌, [], ◌∷◌, ◌++◌, ℕ, ◌-◌, ◌≤◌, ℤ, pos, length, drop};
@@ -22,34 +23,30 @@ ghost use Rattle.taking_exprs.specs.Lines.{plain_row};
 ghost use Rattle.taking_exprs.specs.Held.{ExprHeld};
 
 use codes::code;
-use numerals::Integer;
 use operands::operand;
 use putting::put_expr;
 use spoken::{is_next, number_at};
 use tables::Program;
-use values::checked;
+use values::Value;
 
 // The `val` at a place of the text, cut; 0 where there is none.
+// stays: no plainer: it is asked of a line whose form was found, and that has one
 fn val_at(s: &[u8], at: usize) -> i64
     ensures { result ≡ cut (on_opt (signed (word (drop at s.now))) (pos 0) (λ z. z)) }
 {
-    match numerals::signed(readers::field(s, at)) {
-        Integer::Not => 0,
-        Integer::Is(z) => z,
-    }
+    numerals::signed(readers::field(s, at)).unwrap_or(0)
 }
 
-// An int whose `val`, cut, is z. The number of its value is 0 where it is out of range.
+// An int whose `val`, cut, is z.
 fn take_int(z: i64, exprs: &mut [u32; 3 * (Program::EXPRESSIONS + 1)]) -> bool
     requires { ExprRoom exprs.old }
     ensures { (h : ExprRoom exprs.old) (v : ℤ) → z ≡ cut v
         → Took result (in_range v) (exprs.new ≡ expr_table (h.rows ++ leaf (int_val v) ∷ [])) (exprs.new ≡ exprs.old) }
 {
-    let c = code(checked(z));
-    if c == 0 {
+    let Ok(v) = i32::try_from(z) else {
         return false;
-    }
-    put_expr(exprs, 1, (c % 4294967296) as u32, 0);
+    };
+    put_expr(exprs, 1, (code(Value::Int(v)) % 4294967296) as u32, 0);
     true
 }
 
@@ -59,18 +56,15 @@ fn take_bool(z: i64, exprs: &mut [u32; 3 * (Program::EXPRESSIONS + 1)]) -> bool
     ensures { (h : ExprRoom exprs.old) (v : ℤ) → z ≡ cut v
         → Took result (zero_or_one v) (exprs.new ≡ expr_table (h.rows ++ leaf (bool_val (is_one v)) ∷ [])) (exprs.new ≡ exprs.old) }
 {
-    if z == 0 {
-        put_expr(exprs, 2, 0, 0);
-        return true;
+    if z != 0 && z != 1 {
+        return false;
     }
-    if z == 1 {
-        put_expr(exprs, 2, 1, 0);
-        return true;
-    }
-    false
+    put_expr(exprs, 2, u32::from(z == 1), 0);
+    true
 }
 
 // The kind of the expressions in each form, as their rows have it.
+// stays: the C interface: the tables have a number for the kind of an expression
 const KINDS: [u32; 14] = [10, 11, 12, 13, 8, 9, 1, 2, 3, 4, 5, 6, 0, 7];
 
 // The row of an expression without a `val`.
@@ -85,12 +79,11 @@ fn put_plain(
     ensures { (h : ExprRoom exprs.old) (e : Expr) → expr_row e ≡ plain_row s.now places (row - 10)
         → exprs.new ≡ expr_table (h.rows ++ e ∷ []) }
 {
+    let [_, a, b, ..] = places;
     let k = row - 10;
-    let a = places[1];
-    let b = places[2];
     let x = operand(s, a, k <= 8);
     let y = operand(s, b, k <= 3);
-    put_expr(exprs, KINDS[k], x as u32, y as u32);
+    put_expr(exprs, KINDS[k], u32::from(x), u32::from(y));
 }
 
 // An expression.
@@ -105,18 +98,17 @@ pub fn take_expr(
     ensures { (h : ExprHeld exprs.old) (i : ℕ) (b : Bool) (e : Expr) → line_at s.now places row ≡ expr_line i b e
         → Took result (next EXPRS (length h.rows) i && b) (exprs.new ≡ expr_table (h.rows ++ e ∷ [])) (exprs.new ≡ exprs.old) }
 {
-    let at = places[0];
+    let [own, val, ..] = places;
     let n = exprs[0] as usize;
-    if !is_next(Program::EXPRESSIONS, n, number_at(s, at)) {
+    if !is_next(Program::EXPRESSIONS, n, number_at(s, own)) {
         return false;
     }
-    let val = places[1];
-    if row == 16 {
-        return take_int(val_at(s, val), exprs);
+    match row {
+        16 => take_int(val_at(s, val), exprs),
+        17 => take_bool(val_at(s, val), exprs),
+        _ => {
+            put_plain(s, row, places, exprs);
+            true
+        }
     }
-    if row == 17 {
-        return take_bool(val_at(s, val), exprs);
-    }
-    put_plain(s, row, places, exprs);
-    true
 }

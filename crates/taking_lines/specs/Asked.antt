@@ -12,23 +12,24 @@ use Rattle.putting.specs.Asked.{MoveRoom}
 use Rattle.spoken.specs.Spoken.{value_at}
 use Rattle.taking_stmts.specs.Held.{PoolRoom}
 use Rattle.gathering.specs.Gathered.{variable_lines, call_lines, act_lines, move_lines}
-use Rattle.taking_lines.specs.Gathered.{Front, Back}
+use Rattle.gathering.specs.declared.Lines.{Lines}
+use Rattle.taking_lines.specs.Gathered.{FrontIn, BackIn, Unwritten}
 
 -- of a line before the statements, in form number row
-pub record FrontAsked (row : ℕ) (types owners holds rooms exprs : List ℕ) (kinds variables absent : ℕ) : Type 0 where
+pub record FrontAsked (row : ℕ) (x : Lines) : Type 0 where
   pub lines : Tables
-  pub front : Front lines types owners holds rooms exprs kinds variables absent
+  pub front : FrontIn lines x
   pub row_low : row < 24
   pub no_variable : row ≡ 5 → variable_lines lines ≡ []
-  pub few : variables < TEXT
+  pub few : x.variables < TEXT
 
 -- of a line from the statements on, at its places
-pub record BackAsked (s : List ℕ) (row : ℕ) (places stmts inits actors bodies homes entries exits flags moves choices : List ℕ) (pairs steps calls acts start count : ℕ) : Type 0 where
+pub record BackAsked (s : List ℕ) (row : ℕ) (places : List ℕ) (x : Lines) : Type 0 where
   pub lines : Tables
-  pub back : Back lines stmts inits actors bodies homes entries exits flags moves choices pairs steps calls acts start count
+  pub back : BackIn lines x
   pub row_high : 24 ≤ row
   pub row_low : row < 44
-  pub pool : row ≡ 29 → PoolRoom s places pairs
+  pub pool : row ≡ 29 → PoolRoom s places x.pairs
   pub listed : row ≡ 37 → is_some (numbers (value_at s places 2)) ≡ true
   pub few : 38 ≤ row → row ≤ 40 → length (move_lines lines) < MOVES
   pub no_call : row ≤ 38 → call_lines lines ≡ []
@@ -48,18 +49,19 @@ pub record Moved (row : ℕ) (rows : List Move) (m : Move) (steps calls acts : �
   pub call : row ≡ 39 → (steps' ≡ steps) × (calls' ≡ calls + 1) × (acts' ≡ acts)
   pub act : row ≡ 40 → (steps' ≡ steps) × (calls' ≡ calls) × (acts' ≡ acts + 1)
 
--- THE ARRAYS hold the lines a
-pub record Gathered (a : Tables) (types owners holds rooms exprs : List ℕ) (kinds variables absent : ℕ) (stmts inits actors bodies homes entries exits flags moves choices : List ℕ) (pairs steps calls acts start count : ℕ) : Type 0 where
-  pub front : Front a types owners holds rooms exprs kinds variables absent
-  pub back : Back a stmts inits actors bodies homes entries exits flags moves choices pairs steps calls acts start count
+-- THE LINES a ARE HELD
+pub record Gathered (a : Tables) (x : Lines) : Type 0 where
+  pub front : FrontIn a x
+  pub back : BackIn a x
+  pub unwritten : Unwritten x
 
--- of any line, in form number row and at its places
-pub record LineAsked (s : List ℕ) (row : ℕ) (places types owners holds rooms exprs : List ℕ) (kinds variables absent : ℕ) (stmts inits actors bodies homes entries exits flags moves choices : List ℕ) (pairs steps calls acts start count : ℕ) : Type 0 where
+-- what is asked of any line, in form number row and at its places
+pub record LineAsked (s : List ℕ) (row : ℕ) (places : List ℕ) (x : Lines) : Type 0 where
   pub lines : Tables
-  pub gathered : Gathered lines types owners holds rooms exprs kinds variables absent stmts inits actors bodies homes entries exits flags moves choices pairs steps calls acts start count
+  pub gathered : Gathered lines x
   pub row_low : row < 44
-  pub few_variables : variables < TEXT
-  pub pool : row ≡ 29 → PoolRoom s places pairs
+  pub few_variables : x.variables < TEXT
+  pub pool : row ≡ 29 → PoolRoom s places x.pairs
   pub listed : row ≡ 37 → is_some (numbers (value_at s places 2)) ≡ true
   pub few : 38 ≤ row → row ≤ 40 → length (move_lines lines) < MOVES
   pub no_variable : row ≤ 5 → variable_lines lines ≡ []
@@ -68,11 +70,11 @@ pub record LineAsked (s : List ℕ) (row : ℕ) (places types owners holds rooms
   pub no_start : row ≤ 41 → starts_of lines ≡ []
 
 -- so of a line before the statements, and of one from them on
-module _ {s : List ℕ} {row : ℕ} {places types owners holds rooms exprs : List ℕ} {kinds variables absent : ℕ} {stmts inits actors bodies homes entries exits flags moves choices : List ℕ} {pairs steps calls acts start count : ℕ} (h : LineAsked s row places types owners holds rooms exprs kinds variables absent stmts inits actors bodies homes entries exits flags moves choices pairs steps calls acts start count) where
-  abbrev pub front_asked : row < 24 → FrontAsked row types owners holds rooms exprs kinds variables absent
+module _ {s : List ℕ} {row : ℕ} {places : List ℕ} {x : Lines} (h : LineAsked s row places x) where
+  abbrev pub front_asked : row < 24 → FrontAsked row x
   front_asked l = record { lines = h.lines; front = h.gathered.front; row_low = l; no_variable = λ e. h.no_variable (omega arith); few = h.few_variables }
 
-  abbrev pub back_asked : 24 ≤ row → BackAsked s row places stmts inits actors bodies homes entries exits flags moves choices pairs steps calls acts start count
+  abbrev pub back_asked : 24 ≤ row → BackAsked s row places x
   back_asked l = record {
     lines = h.lines;
     back = h.gathered.back;

@@ -1,10 +1,11 @@
 -- A LINE FROM THE STATEMENTS ON TAKEN: what its function tells and leaves is what is asked of the line, and what the arrays hold with it.
-use Rattle.std.specs.Prelude.{ℕ, ◌+◌, ◌≤◌, ◌<◌, ◌≡◌, refl, Bool, true, ◌&&◌, List, [], ◌∷◌, ◌++◌, leb, ltb, length}
+use Rattle.std.specs.Prelude.{ℕ, ◌+◌, ◌≤◌, ◌<◌, ◌≡◌, refl, Bool, true, ◌&&◌, List, [], ◌∷◌, ◌++◌, leb, ltb, length, Option, Some}
 use Rattle.std.proofs.Common.{ap, sym, ◌∙◌, arith, ltb-true, length-append}
 use Rattle.std.proofs.Math.Logic.{dite}
 use Rattle.std.proofs.Math.Decide.{ℕ_discrete}
 use Rattle.std.proofs.lemmas.List.{length-reverse}
 use Rattle.lists.specs.Facts.{and_parts}
+use Rattle.tables.specs.declared.Kind.{Kind}
 use Rattle.programs.specs.Sizes.{STMTS, ACTIONS, STATES, CHOICES, SPENT, BITS}
 use Rattle.programs.specs.Program.{Stmt, Action, State, Move}
 use Rattle.machines.specs.Config.{Choice}
@@ -55,7 +56,7 @@ ranged_start (tables es ms vs xs ss acs ns ts cs ds ks hs) k = refl
 choice_room : (n machine bits : ℕ) → choosable n machine bits ≡ true → n < CHOICES
 choice_room n machine bits e = ltb-true n CHOICES (and_parts (ltb n CHOICES) (ltb 0 machine) (and_parts (ltb n CHOICES && ltb 0 machine) (ltb machine SPENT) (and_parts (ltb n CHOICES && ltb 0 machine && ltb machine SPENT) (leb bits BITS) e).0).0).0
 
-module _ {stmts inits actors bodies homes entries exits flags moves choices : List ℕ} {pairs steps calls acts start count : ℕ} (a : Tables)
+module _ {stmts inits actors bodies homes entries exits flags moves choices : List ℕ} {pairs steps calls acts : ℕ} {start : Option Kind} {count : ℕ} (a : Tables)
     (b : Back a stmts inits actors bodies homes entries exits flags moves choices pairs steps calls acts start count) where
   -- a statement
   pub took_stmt : (x : Said) (r : Bool) {stmts' inits' : List ℕ} {pairs' : ℕ} (i : ℕ) (s : Stmt) → x ≡ stmt_line i s
@@ -129,7 +130,7 @@ module _ {stmts inits actors bodies homes entries exits flags moves choices : Li
       (λ o. let e : row ≡ 40 = omega (arith, n, o) in let k = w.act e in rw (k.0, k.1) (took_act (line_at s places row) (move_at s places) (ap (line_at s places) e ∙ act_says s places) w.table k.2)))
 
   -- the start
-  pub took_start : (x : Said) {start' : ℕ} (k : ℕ) → x ≡ start_line k → start' ≡ 1 + byte_of k
+  pub took_start : (x : Said) {start' : Option Kind} (k : ℕ) → x ≡ start_line k → start' ≡ Some (record { 0 = byte_of k })
       → Took true (ranged a x) (Back (put x a) stmts inits actors bodies homes entries exits flags moves choices pairs steps calls acts start' count)
       (Back a stmts inits actors bodies homes entries exits flags moves choices pairs steps calls acts start' count)
   took_start x k e h = rw e (took (sym (ranged_start a k)) (back_start a k b h))

@@ -1,7 +1,8 @@
 -- ONE LINE MORE FROM THE STATEMENTS ON: what it leaves in its arrays, and all else as it was, is what the arrays hold of the lines with it. An earlier line leaves them.
-use Rattle.std.specs.Prelude.{ℕ, ◌+◌, ◌≤◌, ◌<◌, ◌≡◌, length}
+use Rattle.std.specs.Prelude.{ℕ, ◌+◌, ◌≤◌, ◌<◌, ◌≡◌, length, Option, Some}
 use Rattle.std.proofs.Common.{ap, sym, ◌∙◌, arith}
 use mathlib.Core.List.{List, [], ◌∷◌, ◌++◌, reverse, reverse-cons, append_assoc, append-nil}
+use Rattle.tables.specs.declared.Kind.{Kind}
 use Rattle.programs.specs.Sizes.{STMTS, ACTIONS, STATES, CHOICES}
 use Rattle.programs.specs.Program.{Stmt, Action, State, Move}
 use Rattle.machines.specs.Config.{Choice}
@@ -27,7 +28,7 @@ call_last ts m cs ds f = rw (f, append-nil cs, append-nil (cs ++ m ∷ []), appe
 act_last : (ts : List Move) (m : Move) (cs ds : List Move) → (ts ++ (cs ++ ds)) ++ m ∷ [] ≡ ts ++ (cs ++ (ds ++ m ∷ []))
 act_last ts m cs ds = rw (append_assoc ts (cs ++ ds) (m ∷ []), append_assoc cs ds (m ∷ []))
 
-module _ {stmts inits actors bodies homes entries exits flags moves choices : List ℕ} {pairs steps calls acts start count : ℕ} where
+module _ {stmts inits actors bodies homes entries exits flags moves choices : List ℕ} {pairs steps calls acts : ℕ} {start : Option Kind} {count : ℕ} where
   -- a statement
   pub back_stmt : (a : Tables) (i : ℕ) (s : Stmt) {stmts' : List ℕ} {inits' : List ℕ} {pairs' : ℕ} → Back a stmts inits actors bodies homes entries exits flags moves choices pairs steps calls acts start count
       → StmtTables (stmt_lines a ++ s ∷ []) stmts' inits' pairs'
@@ -131,8 +132,8 @@ module _ {stmts inits actors bodies homes entries exits flags moves choices : Li
   }
 
   -- the start
-  pub back_start : (a : Tables) (k : ℕ) {start' : ℕ} → Back a stmts inits actors bodies homes entries exits flags moves choices pairs steps calls acts start count
-      → start' ≡ 1 + byte_of k
+  pub back_start : (a : Tables) (k : ℕ) {start' : Option Kind} → Back a stmts inits actors bodies homes entries exits flags moves choices pairs steps calls acts start count
+      → start' ≡ Some (record { 0 = byte_of k })
       → Back (put (start_line k) a) stmts inits actors bodies homes entries exits flags moves choices pairs steps calls acts start' count
   back_start (tables es ms vs xs ss acs ns ts cs ds ks hs) k h p0 = record {
     statements = h.statements;

@@ -1,5 +1,5 @@
 -- A LINE BEFORE THE STATEMENTS TAKEN: what its function tells and leaves is what is asked of the line, and what the arrays hold with it.
-use Rattle.std.specs.Prelude.{ℕ, suc, ◌+◌, ◌<◌, ◌≡◌, Bool, not, ◌&&◌, ◌||◌, eqb, ltb, length}
+use Rattle.std.specs.Prelude.{ℕ, suc, ◌+◌, ◌<◌, ◌≡◌, Bool, not, ◌&&◌, ◌||◌, eqb, ltb, length, Option}
 use Rattle.std.proofs.Common.{ap, sym, ◌∙◌, subst, arith}
 use mathlib.Core.List.{List, [], ◌∷◌, ◌++◌, reverse, reverse-cons}
 use Rattle.std.proofs.lemmas.List.{length-reverse}
@@ -32,7 +32,7 @@ room_reverse : (ms k : ℕ) (vs : List Variable) → room ms k (reverse vs) ≡ 
 room_reverse ms k vs = ap (λ (n : ℕ). not (there ms k) || ltb n VARIABLES) (kept_reverse (is_of k) vs)
 
 -- a kind more, where there is no variable yet
-vars_raised : {ms : ℕ} {owners holds rooms : List ℕ} {variables absent : ℕ} → VariablesHeld [] ms owners holds rooms variables absent → VariablesHeld [] (suc ms) owners holds rooms variables absent
+vars_raised : {ms : ℕ} {owners holds rooms : List ℕ} {variables : ℕ} {absent : Option ℕ} → VariablesHeld [] ms owners holds rooms variables absent → VariablesHeld [] (suc ms) owners holds rooms variables absent
 vars_raised h = record {
   count = h.count;
   size = h.size;
@@ -40,11 +40,11 @@ vars_raised h = record {
   few = λ k l. omega arith;
   tables = h.tables;
   there = λ z. tt;
-  first = λ z. let f = h.first z in absurd (omega (arith, f.here.0, f.here.1));
+  first = λ i z. let f = h.first i z in absurd (omega (arith, f.here.0, f.here.1));
   front = h.front;
 }
 
-module _ {types owners holds rooms exprs : List ℕ} {kinds variables absent : ℕ} (a : Tables) (f : Front a types owners holds rooms exprs kinds variables absent) where
+module _ {types owners holds rooms exprs : List ℕ} {kinds variables : ℕ} {absent : Option ℕ} (a : Tables) (f : Front a types owners holds rooms exprs kinds variables absent) where
   -- an event
   pub took_event : (x : Said) (r : Bool) {types' : List ℕ} (i : ℕ) (t : Ty) → x ≡ event_line i t
       → Took r (next EVENTS (length (event_lines a)) i) (types' ≡ event_table (event_lines a ++ t ∷ [])) (types' ≡ types)
@@ -86,7 +86,7 @@ module _ {types owners holds rooms exprs : List ℕ} {kinds variables absent : �
   }
 
   -- a variable
-  pub took_variable : (x : Said) (r : Bool) {owners' holds' rooms' : List ℕ} {variables' absent' : ℕ} (i : ℕ) (v : Variable) → x ≡ var_line i v
+  pub took_variable : (x : Said) (r : Bool) {owners' holds' rooms' : List ℕ} {variables' : ℕ} {absent' : Option ℕ} (i : ℕ) (v : Variable) → x ≡ var_line i v
       → Took r (eqb i (length (variable_lines a) + 1) && room kinds v.of (variable_lines a))
       (VariablesHeld (variable_lines a ++ v ∷ []) kinds owners' holds' rooms' variables' absent')
       (Kept owners holds rooms variables absent owners' holds' rooms' variables' absent')

@@ -1,5 +1,5 @@
 -- ONE LINE MORE BEFORE THE STATEMENTS: what it leaves in its arrays, and all else as it was, is what the arrays hold of the lines with it. A later line leaves them.
-use Rattle.std.specs.Prelude.{ℕ, ◌+◌, ◌≤◌, ◌<◌, ◌≡◌, Bool, length}
+use Rattle.std.specs.Prelude.{ℕ, ◌+◌, ◌≤◌, ◌<◌, ◌≡◌, Bool, length, Option}
 use Rattle.std.proofs.Common.{ap, sym, ◌∙◌, arith}
 use mathlib.Core.List.{List, [], ◌∷◌, ◌++◌, reverse, reverse-cons}
 use Rattle.std.proofs.lemmas.List.{length-reverse}
@@ -16,7 +16,7 @@ use Rattle.taking_lines.specs.Gathered.{Front}
 pub more_length : {A : Type 0} (x : A) (l : List A) → length (reverse (x ∷ l)) ≡ length (reverse l) + 1
 more_length x l = omega (arith, length-reverse (x ∷ l), length-reverse l)
 
-module _ {types owners holds rooms exprs : List ℕ} {kinds variables absent : ℕ} where
+module _ {types owners holds rooms exprs : List ℕ} {kinds variables : ℕ} {absent : Option ℕ} where
   -- an event
   pub front_event : (a : Tables) (i : ℕ) (t : Ty) {types' : List ℕ} → Front a types owners holds rooms exprs kinds variables absent
       → types' ≡ event_table (event_lines a ++ t ∷ [])

@@ -1,6 +1,7 @@
 -- WHAT THE LOADER'S ARRAYS HOLD when the lines a are read, and that each line taken leaves them so.
-use Rattle.std.specs.Prelude.{ℕ, ◌+◌, ◌≤◌, ◌≡◌, List, [], ◌∷◌, ◌++◌, length}
+use Rattle.std.specs.Prelude.{ℕ, ◌≤◌, ◌≡◌, List, [], ◌∷◌, ◌++◌, length, Option, None, Some}
 use Rattle.values.specs.declared.Ty.{Ty}
+use Rattle.tables.specs.declared.Kind.{Kind}
 use Rattle.programs.specs.Sizes.{EVENTS, KINDS, EXPRS, STMTS, ACTIONS, STATES, CHOICES}
 use Rattle.programs.specs.declared.Expr.{Expr}
 use Rattle.programs.specs.Program.{Stmt, Action, State, Move}
@@ -12,11 +13,12 @@ use Rattle.taking.specs.Variables.{VariablesHeld}
 use Rattle.taking_stmts.specs.Held.{StmtTables}
 use Rattle.taking_states.specs.Held.{FlaggedTables}
 use Rattle.gathering.specs.Gathered.{event_lines, machine_lines, variable_lines, expr_lines, stmt_lines, action_lines, state_lines, step_lines, call_lines, act_lines, choice_lines}
+use Rattle.gathering.specs.declared.Lines.{Lines}
 
--- the kind that `start` names, and one more; 0 where there is none
-abbrev pub word_of_start : List ℕ → ℕ
-word_of_start [] = 0
-word_of_start (k ∷ ks) = 1 + byte_of k
+-- the kind that `start` names
+abbrev pub word_of_start : List ℕ → Option Kind
+word_of_start [] = None
+word_of_start (k ∷ ks) = Some (record { 0 = byte_of k })
 
 -- the events
 pub record EventsAre (es : List Ty) (types : List ℕ) : Type 0 where
@@ -62,17 +64,30 @@ pub record ChoicesAre (hs : List Choice) (choices : List ℕ) (count : ℕ) : Ty
   pub size : length hs ≤ CHOICES
 
 -- THE ARRAYS OF THE LINES BEFORE THE STATEMENTS, with how many kinds and variables there are, and the first variable whose kind is not there
-pub record Front (a : Tables) (types owners holds rooms exprs : List ℕ) (kinds variables absent : ℕ) : Type 0 where
+pub record Front (a : Tables) (types owners holds rooms exprs : List ℕ) (kinds variables : ℕ) (absent : Option ℕ) : Type 0 where
   pub events : EventsAre (event_lines a) types
   pub machines : MachinesAre (machine_lines a) kinds
   pub vars : VariablesHeld (variable_lines a) (machine_lines a) owners holds rooms variables absent
   pub expressions : ExprsAre (expr_lines a) exprs
 
 -- AND OF THOSE FROM THE STATEMENTS ON, with how many pairs, steps, calls and acts there are, the start and how many choices
-pub record Back (a : Tables) (stmts inits actors bodies homes entries exits flags moves choices : List ℕ) (pairs steps calls acts start count : ℕ) : Type 0 where
+pub record Back (a : Tables) (stmts inits actors bodies homes entries exits flags moves choices : List ℕ) (pairs steps calls acts : ℕ) (start : Option Kind) (count : ℕ) : Type 0 where
   pub statements : StmtsAre (stmt_lines a) stmts inits pairs
   pub actions : ActionsAre (action_lines a) actors bodies
   pub states : StatesAre (state_lines a) homes entries exits flags
   pub moved : MovesAre (step_lines a) (call_lines a) (act_lines a) moves steps calls acts
   pub started : start ≡ word_of_start (starts_of a)
   pub chosen : ChoicesAre (choice_lines a) choices count
+
+-- THE LINES a ARE HELD, those before the statements
+abbrev pub FrontIn : Tables → Lines → Type 0
+FrontIn a x = Front a x.program.event_types x.program.variable_of x.program.variable_type x.rooms x.program.exprs x.kinds x.variables x.absent
+
+-- and those from the statements on
+abbrev pub BackIn : Tables → Lines → Type 0
+BackIn a x = Back a x.program.stmts x.program.inits x.program.action_of x.program.action_body x.program.state_of x.program.state_entry x.program.state_exit x.program.defers x.program.moves x.choices
+    x.pairs x.program.steps x.program.calls x.program.acts x.start x.count
+
+-- how many kinds there are and the start are not written into the tables yet
+abbrev pub Unwritten : Lines → Type 0
+Unwritten x = (x.program.kinds ≡ 0) × (x.program.start ≡ record { 0 = 0 })

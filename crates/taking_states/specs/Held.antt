@@ -82,9 +82,13 @@ module _ {s places homes entries exits flags : List ℕ} (h : LineRoom s places 
   abbrev pub row_room : StateRoom homes entries exits
   row_room = record { rows = h.rows; held = h.held.states; room = h.room }
 
-  -- room for its flags
+  -- room for its flags, where its number is n
+  abbrev pub flag_room_at : {can : Bool} {n : ℕ} → n ≡ get_or homes 0 0 + 1 → can ≡ all (there EVENTS) (list_at s places 2) → FlagRoom (value_at s places 2) can flags n
+  flag_room_at q e = record { rows = h.rows; held = h.held.defers; last = omega (arith, q, before_count); room = omega (arith, q, before_few); listed = h.listed; told = e }
+
+  -- at the number that it has
   abbrev pub flag_room : {can : Bool} → can ≡ all (there EVENTS) (list_at s places 2) → FlagRoom (value_at s places 2) can flags (get_or homes 0 0 + 1)
-  flag_room e = record { rows = h.rows; held = h.held.defers; last = omega (arith, before_count); room = omega (arith, before_few); listed = h.listed; told = e }
+  flag_room e = flag_room_at refl e
 
   -- its kind
   pub kind_told : {can : Bool} {k : ℕ} → can ≡ all (there EVENTS) (list_at s places 2) → k ≡ cond can (byte_of (number_at s places 1)) 255 → state_kind (state_at s places) ≡ k

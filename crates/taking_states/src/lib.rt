@@ -1,5 +1,6 @@
 // A state's line taken into the loader's arrays of states and of the flags of their deferred events. The function is given the text and the places of the line's
 // values, and is lent the arrays. It answers whether the line is in range: where it is, the arrays have the line, where not, they are as they were.
+// stays: may not change: line_at, which tells a line by the text and the places of its values: `at` here
 #![tactic(auto)]
 
 ghost use Rattle.std.specs.Prelude.{◌≡◌, true, cond, [], ◌∷◌, ◌++◌, ℕ, length, drop};
@@ -24,6 +25,7 @@ use spoken::{is_next, number_at};
 use tables::Program;
 
 // The kind of a state; 255 where an event that it defers can be none.
+// stays: may not change: the definition state_kind, since the tables have 255 there
 fn home(s: &[u8], at: usize, can: bool) -> u8
     ensures { result ≡ cond can (byte_of (on_opt (decimal (word (drop at s.now))) 0 (λ n. n))) 255 }
 {
@@ -43,7 +45,7 @@ fn put_flags(
         → flags.new ≡ defer_table (h.rows ++ t ∷ []) }
 {
     if can {
-        set_flags(field(s, at), flags, n * 65);
+        set_flags(field(s, at), flags, n * (Program::EVENTS + 1));
     }
 }
 
@@ -60,11 +62,8 @@ fn put_line(
     ensures { (h : LineRoom s.now places homes.old entries.old exits.old flags.old)
         → FlaggedTables (h.rows ++ state_at s.now places ∷ []) homes.new entries.new exits.new flags.new }
 {
-    let of = places[1];
-    let defer = places[2];
-    let entry = places[3];
-    let exit = places[4];
-    let n = homes[0] as usize + 1;
+    let [_, of, defer, entry, exit] = places;
+    let n = usize::from(homes[0]) + 1;
     let can = deferrable(field(s, defer));
     put_flags(s, defer, can, flags, n);
     put_state(
@@ -93,9 +92,8 @@ pub fn take_state(
         → Took result (next STATES (length h.rows) i) (FlaggedTables (h.rows ++ t ∷ []) homes.new entries.new exits.new flags.new)
         ((homes.new ≡ homes.old) × (entries.new ≡ entries.old) × (exits.new ≡ exits.old) × (flags.new ≡ flags.old)) }
 {
-    let at = places[0];
-    let n = homes[0] as usize;
-    if !is_next(Program::STATES, n, number_at(s, at)) {
+    let n = usize::from(homes[0]);
+    if !is_next(Program::STATES, n, number_at(s, places[0])) {
         return false;
     }
     put_line(s, places, homes, entries, exits, flags);

@@ -1,6 +1,8 @@
 // A statement's line taken into the loader's arrays of statements and of their pairs. A function is given the text, the number of the line's form and the places of
 // its values, and is lent the arrays and how many pairs there are. It answers whether the line is in range: where it is, the arrays have the line, where not, they are
 // as they were.
+// stays: may not change: line_at, which tells a line by the number of its form, `row` here, and the places of its values
+// stays: no heap, fixed memory: the pool of pairs, and how many it has
 #![tactic(auto)]
 
 ghost use Rattle.std.specs.Prelude.{◌≡◌, [], ◌∷◌, ◌++◌, ℕ, ◌-◌, ◌≤◌, length};
@@ -22,6 +24,7 @@ use spoken::{is_next, number_at};
 use tables::Program;
 
 // The kind of the statements in each form, as their rows have it.
+// stays: the C interface: the tables have a number for the kind of a statement
 const KINDS: [u16; 12] = [1, 0, 3, 6, 7, 2, 4, 5, 8, 9, 10, 11];
 
 // How many operands they have; a `new` is put by `put_new`.
@@ -39,11 +42,9 @@ fn put_plain(
     ensures { (h : StmtRoom stmts.old) (t : Stmt) → ((i : ℕ) → stmt_row i t ≡ plain_row s.now places (row - 24))
         → stmts.new ≡ stmt_table (h.rows ++ t ∷ []) }
 {
+    let [_, a, b, c, _] = places;
     let k = row - 24;
     let m = OPERANDS[k];
-    let a = places[1];
-    let b = places[2];
-    let c = places[3];
     let x = operand(s, a, 1 <= m);
     let y = operand(s, b, 2 <= m);
     let z = operand(s, c, 3 <= m);
@@ -62,11 +63,9 @@ fn put_new(
     ensures { (h : NewRoom s.now places stmts.old inits.old pairs.old)
         → StmtTables (h.rows ++ new_at s.now places ∷ []) stmts.new inits.new pairs.new }
 {
-    let a = places[1];
-    let b = places[2];
-    let at = places[3];
+    let [_, a, b, list, _] = places;
     let n = *pairs;
-    let m = put_pairs(readers::field(s, at), inits, n);
+    let m = put_pairs(readers::field(s, list), inits, n);
     let x = operand(s, a, true);
     let y = operand(s, b, true);
     put_stmt(stmts, 2, x, y, n as u16, m as u16);
@@ -89,9 +88,8 @@ pub fn take_stmt(
         → Took result (next STMTS (length h.rows) i) (StmtTables (h.rows ++ t ∷ []) stmts.new inits.new pairs.new)
         ((stmts.new ≡ stmts.old) × (inits.new ≡ inits.old) × (pairs.new ≡ pairs.old)) }
 {
-    let at = places[0];
-    let n = stmts[0] as usize;
-    if !is_next(Program::STATEMENTS, n, number_at(s, at)) {
+    let n = usize::from(stmts[0]);
+    if !is_next(Program::STATEMENTS, n, number_at(s, places[0])) {
         return false;
     }
     if row == 29 {

@@ -1,4 +1,5 @@
 // The expressions and the statements of a program's tables: the numbers of a row as an expression, or as a statement without its init list.
+// stays: no plainer: what a row means hangs on all of its numbers, which are no value of one type that a From could take
 #![tactic(auto)]
 
 ghost use Rattle.std.specs.Prelude.{◌≡◌, min};
@@ -12,13 +13,15 @@ use tables::{Head, Kind, Program};
 use values::{Binary, Unary, int_of};
 
 // A number that does not fit 16 bits reads as the largest that does.
-fn short(x: u32) -> u16
+// stays: no plainer: std has no cut to a narrower type, and the name says which is meant
+pub fn short(x: u32) -> u16
     ensures { result ≡ min x 65535 }
 {
-    if x <= 65535 { x as u16 } else { 65535 }
+    u16::try_from(x).unwrap_or(u16::MAX)
 }
 
 // The expression of kind k, with its value x or its parts a and b.
+#[tactic(auto, unfolding(tables::specs::Decode::expr_of))]
 fn expr_of(k: u32, x: u32, a: u16, b: u16) -> Expr
     ensures { result ≡ expr_of k x a b }
 {
@@ -44,20 +47,17 @@ fn expr_of(k: u32, x: u32, a: u16, b: u16) -> Expr
 pub fn expr_at(exprs: &[u32; 3 * (Program::EXPRESSIONS + 1)], e: usize) -> Expr
     ensures { result ≡ at (leaf bot) (exprs_of exprs.now) e }
 {
-    let n = tables::expr_count(exprs);
-    if 0 < e {
-        if e <= n {
-            let i = e * 3;
-            let k = exprs[i];
-            let x = exprs[i + 1];
-            let y = exprs[i + 2];
-            return expr_of(k, x, short(x), short(y));
-        }
+    if tables::there(tables::expr_count(exprs), e) {
+        let i = e * 3;
+        let x = exprs[i + 1];
+        expr_of(exprs[i], x, short(x), short(exprs[i + 2]))
+    } else {
+        Expr::Leaf(Leaf::Bot)
     }
-    Expr::Leaf(Leaf::Bot)
 }
 
 // The statement of kind k, with the numbers x, y, z and n; where they are a kind's or an event's, x is a and y is b.
+#[tactic(auto, unfolding(tables::specs::Decode::head_of))]
 fn head_of(k: u16, x: u16, y: u16, z: u16, n: u16, a: u8, b: u8) -> Head
     ensures { result ≡ head_of k x y z n a b }
 {
@@ -81,17 +81,20 @@ fn head_of(k: u16, x: u16, y: u16, z: u16, n: u16, a: u8, b: u8) -> Head
 pub fn stmt_at(stmts: &[u16; 5 * (Program::STATEMENTS + 1)], s: usize) -> Head
     ensures { result ≡ head_at stmts.now s }
 {
-    let m = tables::stmt_count(stmts);
-    if 0 < s {
-        if s <= m {
-            let i = s * 5;
-            let k = stmts[i];
-            let x = stmts[i + 1];
-            let y = stmts[i + 2];
-            let z = stmts[i + 3];
-            let n = stmts[i + 4];
-            return head_of(k, x, y, z, n, tables::byte(x), tables::byte(y));
-        }
+    if tables::there(tables::stmt_count(stmts), s) {
+        let i = s * 5;
+        let x = stmts[i + 1];
+        let y = stmts[i + 2];
+        head_of(
+            stmts[i],
+            x,
+            y,
+            stmts[i + 3],
+            stmts[i + 4],
+            tables::byte(x),
+            tables::byte(y),
+        )
+    } else {
+        Head::Skip
     }
-    Head::Skip
 }

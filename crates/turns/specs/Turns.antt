@@ -1,14 +1,15 @@
 -- The turn of a pending raise of event e in the frame (n, α): as the definitions have it, by the numbers of the tables, and the act that it is.
 use Rattle.std.specs.Prelude.{ℕ, ◌+◌, ◌-◌, ◌≤◌, ◌≡◌, refl, Bool, true, false, cond, List, eqb, length, get_or}
 use Rattle.std.proofs.Math.Option.{Option, none, some}
-use Rattle.std.proofs.Common.{arith, eq-eqb, ne_eqb}
+use Rattle.std.proofs.Common.{◌∙◌, arith, eq-eqb, ne_eqb}
 use Rattle.lists.specs.Lists.{on_opt}
 use Rattle.values.specs.declared.Value.{Value}
 use Rattle.programs.specs.Program.{Program, Step, Call, ActionOf}
 use Rattle.machines.specs.Config.{Reply, action, deferred, nothing, Frame, raising, Local}
 use Rattle.machines.specs.Maps.{is_action, entry_at}
 use Rattle.rules.specs.Act.{Act, stepping, calling, acting, popping, pends}
-use Rattle.index.specs.Index.{said_at, or_zero}
+use Rattle.index.specs.declared.Line.{Line}
+use Rattle.index.specs.Index.{said_at, or_zero, line_at, line_here}
 use Rattle.configs.specs.Decode.{reply_of}
 use Rattle.maps.specs.Maps.{Moves, Asked, map_at, entry_at_lem}
 use Rattle.turns.specs.declared.Turn.{Turn}
@@ -72,3 +73,15 @@ turn_is p says maps l b n e q h =
       by_number (Call p n e) (get_or says (said_at n e + 1) 0) _ call_to (l.told.call n e q.state q.event) (l.call_from_1 n e),
       by_number (Step p n e) (get_or says (said_at n e) 0) _ step_to (l.told.step n e q.state q.event) (l.step_from_1 n e),
     )
+
+-- the same by the line that is looked up
+pub turn_line : (p : Program) (says maps : List ℕ) (l : Moves p says) (b n e : ℕ) (q : Asked b n e) → e ≤ length p.events → (line : Line) → line ≡ line_at says n e
+    → turn_of p n (map_at p b maps) e
+    ≡ cond (eqb line.step 0)
+    (cond (eqb line.call 0)
+    (cond (eqb line.act 0)
+    (cond (eqb (get_or maps (b + (e - 1)) 0) 0) pop_it (cond (eqb (get_or maps (b + (e - 1)) 0) 255) pop_it (do_act (get_or maps (b + (e - 1)) 0))))
+    (do_act line.act))
+    (call_to line.call))
+    (step_to line.step)
+turn_line p says maps l b n e q h line is = rw (is ∙ line_here says n e q.state q.event) (turn_is p says maps l b n e q h)

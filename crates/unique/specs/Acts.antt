@@ -1,8 +1,10 @@
 -- The engine's functions: two outcomes that meet a contract are equal, and so is all that was lent, on refusals too. Each contract is one of three forms, the
 -- act of a machine, a dequeue, or a step of the definitions; and the lists of its own that a function says it over follow from them.
-use Rattle.std.specs.Prelude.{ℕ, ◌≤◌, ◌<◌, ◌≡◌, refl, Bool, true, false, List}
+use Rattle.std.specs.Prelude.{ℕ, ◌≤◌, ◌<◌, ◌≡◌, refl, Bool, true, false, Some, None, List}
+use Rattle.std.specs.Prelude as Prelude
 use Rattle.std.proofs.Common.{ap, sym, ◌∙◌, ⊎_elim, ext_get_or}
 use Rattle.std.proofs.Math.Option.{Option, none, some, none-ne-some}
+use mathlib.Core.Bool.{true≢false}
 use Rattle.rows.specs.Pad.{below?}
 use Rattle.values.specs.declared.Value.{Value}
 use Rattle.programs.specs.Program.{Stmt, new, send}
@@ -13,8 +15,9 @@ use Rattle.rules.specs.Step as definition
 use Rattle.tables.specs.declared.Head.{Head}
 use Rattle.tables.specs.declared.Head.TheVariants.{Skip, Assign, New, Delete, Send, Raise, Leave, Return, Assert, Seq, If, While}
 use Rattle.tables.specs.Decode.{pairs_of}
-use Rattle.configs.specs.Flat.{Flat, flat}
-use Rattle.engine.specs.declared.Outcome.{Outcome}
+use Rattle.configs.specs.declared.Flat.{Flat}
+use Rattle.configs.specs.Flat.{flat}
+use Rattle.engine.specs.Outcome.{Outcome}
 use Rattle.engine.specs.Engine.{Acted, Dequeued, Performed}
 use Rattle.statements.specs.Heading.{act_of, RowAsked, RowLeft, PendingLeft}
 use Rattle.remaining.specs.Held.{with_row, with_pending}
@@ -25,8 +28,8 @@ use Rattle.dequeuing.specs.Dequeuing.{DequeueAsked, DequeueLeaves}
 use Rattle.sending.specs.Sending.{with_sent}
 use Rattle.sending.specs.Asked.{SendAsked, lists, Sent}
 use Rattle.creating.specs.Asked.{NewAsked, Created}
-use Rattle.beginnings.specs.Inits.{Written, InitsAsked, Begun}
-use Rattle.owning.specs.Owning.{OwnAsked, Left as OwnLeft}
+use Rattle.beginnings.specs.Inits.{Written, InitsAsked, Begun, Given}
+use Rattle.owning.specs.Owning.{OwnAsked, Owned, Left as OwnLeft}
 use Rattle.unique.specs.Arrays.{held_one, changed_one}
 
 -- THE ACT of a machine that touches nothing else
@@ -68,7 +71,7 @@ module _ {k : ℕ} {t : Stmt} {counts parts held : List ℕ} (a : RowAsked k t c
       let e = acted_one a.f k a.m (act_of a.heading w) r s (with_stored a.f u c p h) (with_stored a.f v d q i) x y in
       (e.0, (ap (λ (f : Flat). f.values) e.1, (ap (λ (f : Flat). f.counts) e.1, (ap (λ (f : Flat). f.parts) e.1, ap (λ (f : Flat). f.held) e.1))))
 
--- `owning::own_on`: by the head
+-- `owning::own_on`: by the head,
 pub own_left_one : {stmts exprs places says types owners vartypes homes exits depths states maps values : List ℕ} {k w : ℕ} {counts parts held : List ℕ} (h : Head)
     (a : OwnAsked stmts exprs places says types owners vartypes homes exits depths states maps values k w h counts parts held) (r s : Outcome) (f g : Flat)
     → OwnLeft h a r f → OwnLeft h a s g → (r ≡ s) × (f ≡ g)
@@ -84,6 +87,15 @@ own_left_one {k = k} {w = w} (Assert e) a r s f g x y = acted_one a.f k a.m (act
 own_left_one {k = k} {w = w} (Seq z u) a r s f g x y = acted_one a.f k a.m (act_of a.heading w) r s f g x y
 own_left_one {k = k} {w = w} (If e z u) a r s f g x y = acted_one a.f k a.m (act_of a.heading w) r s f g x y
 own_left_one {k = k} {w = w} (While e z) a r s f g x y = acted_one a.f k a.m (act_of a.heading w) r s f g x y
+
+-- and of the lists that it is lent whole, which are those of `old` but for the four
+pub owned_one : {stmts exprs places says types owners vartypes homes exits depths states maps values : List ℕ} {k w : ℕ} {counts parts held : List ℕ} (h : Head)
+    (a : OwnAsked stmts exprs places says types owners vartypes homes exits depths states maps values k w h counts parts held) (r s : Outcome) (old f g : Flat)
+    → Owned a r f.values f.counts f.parts f.held → f ≡ with_stored old f.values f.counts f.parts f.held
+    → Owned a s g.values g.counts g.parts g.held → g ≡ with_stored old g.values g.counts g.parts g.held → (r ≡ s) × (f ≡ g)
+owned_one h a r s old f g x p y q =
+    let e = own_left_one h a r s (with_stored a.f f.values f.counts f.parts f.held) (with_stored a.f g.values g.counts g.parts g.held) x y in
+    (e.0, p ∙ ap (λ (z : Flat). with_stored old z.values z.counts z.parts z.held) e.1 ∙ sym q)
 
 -- WHAT IS PENDING: `pending` (step_on, call_on, action_on, pop1_on, pop2_on), `pended::pend_on`
 pub pend_left_one : {k : ℕ} {depths states maps counts parts held : List ℕ} (a : Here k depths states maps counts parts held) (act : Act) (r s : Outcome) (d e t u m n c b p q h i : List ℕ)
@@ -157,3 +169,10 @@ inits_one q true true out put (vs, (e, (i, h))) (us, (f, (j, k))) = let x : vs �
 inits_one q true false out put (vs, (e, h)) k = absurd (none-ne-some _ (sym k.0 ∙ e))
 inits_one q false true out put h (us, (f, k)) = absurd (none-ne-some _ (sym h.0 ∙ f))
 inits_one q false false out put h k = (refl, h.1 ∙ sym k.1)
+
+-- and as its answer says it: the values, or none
+pub given_one : {k z n w : ℕ} {exprs places kinds types inits values out₀ : List ℕ} (q : InitsAsked k z n w exprs places kinds types inits values out₀) (r s : Prelude.Option (List ℕ)) → Given q r → Given q s → r ≡ s
+given_one q (Some out) (Some put) h k = ap Some (inits_one q true true out put h k).1
+given_one {out₀} q (Some out) None h k = absurd (true≢false (inits_one q true false out out₀ h k).0)
+given_one {out₀} q None (Some put) h k = absurd (true≢false (sym (inits_one q false true out₀ put h k).0))
+given_one q None None h k = refl

@@ -1,6 +1,6 @@
 -- The flat lists are known by the configuration that they hold: their lengths are fixed, and each place is a room's. So whatever says what the rooms are
 -- at the end, and how long the lists, has one result: laying, a room changed, a step's lists.
-use Rattle.std.specs.Prelude.{ℕ, ◌*◌, ◌/◌, ◌%◌, ◌≤◌, ◌<◌, ◌≡◌, List, length, get_or}
+use Rattle.std.specs.Prelude.{ℕ, ◌*◌, ◌/◌, ◌%◌, ◌≤◌, ◌<◌, ◌≡◌, refl, Option, Some, None, List, length, get_or}
 use Rattle.std.proofs.Common.{ap, sym, ◌∙◌, subst, ⊎_elim, div-add-mod', div-lt_iff_lt-mul, mod-lt, arith, ext_get_or}
 use Rattle.std.proofs.Math.Logic.{dite}
 use Rattle.std.proofs.Math.Decide.{ℕ_discrete}
@@ -11,10 +11,11 @@ use Rattle.machines.specs.Config.{Machine}
 use Rattle.configs.specs.declared.Room.{Room}
 use Rattle.configs.specs.declared.Config.{Config as Held}
 use Rattle.configs.specs.Encode.{free}
-use Rattle.configs.specs.Flat.{Flat, flat, Sized, room_at, held}
+use Rattle.configs.specs.declared.Flat.{Flat}
+use Rattle.configs.specs.Flat.{flat, Sized, room_at, held}
 use Rattle.laying.specs.Laying.{Placed, Holds}
 use Rattle.engine.specs.Engine.{Changed}
-use Rattle.rooms.specs.Places.{First}
+use Rattle.rooms.specs.Places.{First, Found}
 
 -- ONE LIST: 32 rows of w places
 rows_one : (w : ℕ) → 1 ≤ w → (xs ys : List ℕ) → length xs ≡ 32 * w → length ys ≡ 32 * w → ((j : ℕ) → j < 32 → part (j * w) w xs ≡ part (j * w) w ys) → xs ≡ ys
@@ -97,3 +98,10 @@ find_room_one ids i r s h k = ⊎_elim
     (λ (b : r ≤ s). omega arith)
     (below? s r))
     (below? r s)
+
+-- and as its answer says it: the place, or none
+pub found_room_one : (ids : List ℕ) (i : ℕ) (r s : Option ℕ) → Found ids i r → Found ids i s → r ≡ s
+found_room_one ids i (Some r) (Some s) h k = ap Some (find_room_one ids i r s h.1 k.1)
+found_room_one ids i (Some r) None h k = let e : r ≡ 32 = find_room_one ids i r 32 h.1 k in absurd (omega (arith, h.0))
+found_room_one ids i None (Some s) h k = let e : s ≡ 32 = find_room_one ids i s 32 k.1 h in absurd (omega (arith, k.0))
+found_room_one ids i None None h k = refl

@@ -4,6 +4,8 @@ pub mod Forms
 pub mod Step
 -- the two public runs
 pub mod Runs
+-- what is shown of a configuration
+pub mod Shown
 -- the tests of what is handed in
 pub mod Passes
 -- tables that are worked out of a program, and the marks of what was named

@@ -1,14 +1,17 @@
 -- The tests of what is handed in, where they ask for nothing: what they say holds for every program that the lent tables are, and there is one, whatever the
 -- tables hold. `definition` is what the contract says of the program: the number of the first faulty line, or a test; P is what it decides.
-use Rattle.std.specs.Prelude.{ℕ, ◌+◌, ◌≡◌, refl, Bool, List, [], length, get_or, replicate}
-use Rattle.std.proofs.Common.{sym, ◌∙◌}
+use Rattle.std.specs.Prelude.{ℕ, ◌+◌, ◌≤◌, ◌<◌, ◌≡◌, refl, Bool, true, false, List, [], length, get_or, replicate, Option, Some, None}
+use Rattle.std.proofs.Common.{ap, sym, ◌∙◌, ⊎_elim, arith}
 use Rattle.std.proofs.lemmas.List.{length-replicate}
 use Rattle.lists.specs.Tells.{Tells, agree}
 use Rattle.values.specs.declared.Ty.TheVariants.{Void as void}
 use Rattle.programs.specs.Program.{Program}
 use Rattle.tables.specs.Decode.{no_variable, events_of, variables_of, exprs_of, stmts_of, actions_of, states_of, moves_of}
+use Rattle.rows.specs.Pad.{below?}
+use Rattle.faults.specs.Lines.{Finds}
 use Rattle.faults.specs.Read.{Tabled, Moving}
-use Rattle.configs.specs.Flat.{Flat, flat}
+use Rattle.configs.specs.declared.Flat.{Flat}
+use Rattle.configs.specs.Flat.{flat}
 use Rattle.checked_stacks.specs.CheckedStacks.{Told}
 use Rattle.quietness.specs.Quiet.{ToldStates}
 use Rattle.unique.specs.Forms.{lined}
@@ -102,6 +105,20 @@ module _ {A : Type 0} (r s : A) where
     where
       p : Program
       p = lined [] 0 (replicate variables no_variable) (exprs_of exprs) [] [] [] [] [] [] 0
+
+-- `faults::first_bad`, of a closure that does not say both yes and no of one number
+pub first_bad_one : (said : ℕ → Bool → Type 0) (n : ℕ) (r s : Option ℕ) → ((i : ℕ) → said i true → said i false → ⊥) → Finds said n r → Finds said n s → r ≡ s
+first_bad_one said n None None one h k = refl
+first_bad_one said n None (Some j) one h k = absurd (one j (h.before j k.found.0 k.found.1 tt) k.found.2)
+first_bad_one said n (Some i) None one h k = absurd (one i (k.before i h.found.0 h.found.1 tt) h.found.2)
+first_bad_one said n (Some i) (Some j) one h k =
+    let high : j ≤ i = at_least i j (λ l. one i (k.before i h.found.0 h.found.1 l) h.found.2) in
+    let low : i ≤ j = at_least j i (λ l. one j (h.before j k.found.0 k.found.1 l) k.found.2) in
+    let same : i ≡ j = omega arith in
+    ap Some same
+  where
+    at_least : (x y : ℕ) → (x < y → ⊥) → y ≤ x
+    at_least x y never = ⊎_elim (λ (l : x < y). absurd (never l)) (λ (l : y ≤ x). l) (below? x y)
 
 -- THE PARTS OF ACCEPTANCE
 module _ (r s : Bool) where

@@ -4,7 +4,7 @@ use Rattle.std.proofs.Common.{sym, ◌∙◌}
 use Rattle.values.specs.declared.Live.{Live}
 use Rattle.tables.specs.declared.Program.{Program as Tables}
 use Rattle.configs.specs.declared.Config.{Config as Held}
-use Rattle.engine.specs.declared.Outcome.{Outcome}
+use Rattle.engine.specs.Outcome.{Outcome}
 use Rattle.handed.specs.declared.Stepped.{Stepped}
 use Rattle.handed.specs.Handed.{step_of}
 use Rattle.unique.specs.Forms.{one_result}

@@ -1,5 +1,6 @@
 -- Tables that are worked out of a program, and the marks of what was named: every place of them is said.
 use Rattle.std.specs.Prelude.{ℕ, zero, suc, ◌+◌, ◌*◌, ◌/◌, ◌%◌, ◌≤◌, ◌<◌, ◌≡◌, refl, Bool, true, false, not, List, [], eqb, length, get_or}
+use Rattle.std.specs.Borrow.{Bor}
 use Rattle.std.proofs.Common.{sym, ◌∙◌, true≢false, arith, eq-eqb, ne_eqb, ext_get_or}
 use Rattle.std.proofs.Math.Logic.{dite}
 use Rattle.std.proofs.Math.Bool.{not-not}
@@ -8,12 +9,16 @@ use Rattle.lists.specs.Lists.{any, keep, push, There, there}
 use Rattle.lists.specs.Tells.{Tells, there_is}
 use Rattle.rows.specs.Seek.{table}
 use Rattle.programs.specs.Program.{Program, Move, Variable}
-use Rattle.tables.specs.Decode.{variables_of, exprs_of, stmts_of, actions_of, states_of}
-use Rattle.index.specs.Index.{said_at, Said, Placed}
+use Rattle.tables.specs.declared.Program.{Program as Lent}
+use Rattle.tables.specs.Decode.{program_of, variables_of, exprs_of, stmts_of, actions_of, states_of}
+use Rattle.index.specs.declared.Index.{Index}
+use Rattle.index.specs.Index.{said_at, Said, Says, Placed}
 use Rattle.marks.specs.declared.Inner.{Inner}
 use Rattle.marks.specs.declared.Inner.TheVariants.{Nothing, One, Two}
 use Rattle.marks.specs.Inner.{listed}
+use Rattle.marks.specs.Climbs.{Climbs}
 use Rattle.marks.specs.Tall.{Over}
+use Rattle.marks.specs.Flow.{flowed}
 use Rattle.marks.specs.Sheet.{Marking}
 use Rattle.marks.specs.Marks.{Heights, Served, Stated, Peopled}
 use Rattle.expr_marks.specs.Naming.{ExprServed}
@@ -56,6 +61,14 @@ placed_one variables r s h k = ext_get_or 0 r s (h.size ∙ sym k.size) (λ x b.
 -- `index::place_all`
 pub place_all_one : (kinds r s : List ℕ) → ((types : List ℕ) → Placed (variables_of kinds types) r) → ((types : List ℕ) → Placed (variables_of kinds types) s) → r ≡ s
 place_all_one kinds r s h k = placed_one (variables_of kinds []) r s (h []) (k [])
+
+-- `index::Index::of`, of the program that is lent
+pub index_one : (q : Lent) (r s : Index) → Says (program_of q) r.says → ((types : List ℕ) → Placed (variables_of q.variable_of types) r.places)
+    → Says (program_of q) s.says → ((types : List ℕ) → Placed (variables_of q.variable_of types) s.places) → r ≡ s
+index_one q r s a b c d = λ i. record {
+  says = say_one (program_of q).steps (program_of q).calls (program_of q).acts r.says s.says a c i;
+  places = place_all_one q.variable_of r.places s.places b d i;
+}
 
 -- MARKS: `marks::heights`
 pub heights_one : (stmts r s : List ℕ) → ((p : Program) → Stated stmts p → Heights p r) → ((p : Program) → Stated stmts p → Heights p s) → r ≡ s
@@ -113,6 +126,20 @@ inner_one l r s h k = go r s (h ∙ sym k)
 -- `marks::height_over`
 pub over_one : (l : List ℕ) (n : ℕ) (ts : List ℕ) (r s : ℕ) → Over l n ts r → Over l n ts s → r ≡ s
 over_one l n ts r s h k = h.0 ∙ sym k.0
+
+-- `marks::climb`, where what is worked out of a table and a number is determined
+pub climb_one : {A : Type 0} (said : Bor (List A) → ℕ → A → Type 0) → ((k j : Bor (List A)) (m : ℕ) (x y : A) → k.now ≡ j.now → said k m x → said j m y → x ≡ y)
+    → (first : List A) (n : ℕ) (r s : List A) → Climbs said first n r → Climbs said first n s → r ≡ s
+climb_one said same first zero r s h k = h ∙ sym k
+climb_one said same first (suc n) r s h k =
+    let e : h.lower.now ≡ k.lower.now = climb_one said same first n h.lower.now k.lower.now h.lent k.lent in
+    h.stored ∙ rw (e, same h.lower k.lower (suc n) h.item k.item e h.worked k.worked) (sym k.stored)
+
+-- `marks::flow`, where what each number holds is determined
+pub flow_one : (said : ℕ → Inner → Type 0) (kids : ℕ → List ℕ) → ((m : ℕ) (i : Inner) → said m i → listed i ≡ kids m) → (b n : ℕ) (l r s : List ℕ)
+    → ((kids : ℕ → List ℕ) → ((m : ℕ) (i : Inner) → said m i → listed i ≡ kids m) → r ≡ flowed kids b n l)
+    → ((kids : ℕ → List ℕ) → ((m : ℕ) (i : Inner) → said m i → listed i ≡ kids m) → s ≡ flowed kids b n l) → r ≡ s
+flow_one said kids told b n l r s h k = h kids told ∙ sym (k kids told)
 
 -- `faults::count_rows`
 pub counts_one : (types : List ℕ) (kinds : ℕ) (owners trees steps actors places : List ℕ) (c d : Counts) → Counting types kinds owners trees steps actors places c

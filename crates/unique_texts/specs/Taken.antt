@@ -1,9 +1,7 @@
 -- THE LINES OF EACH KIND, taken into the arrays of their kind. A contract speaks of all lines that the arrays were asked to hold, and of what the line says that is
 -- taken: a line in the form's number always says something. What the arrays hold with it, or that they are as they were, fixes them.
-use Rattle.std.specs.Prelude.{ℕ, ◌+◌, ◌-◌, ◌≤◌, ◌<◌, ◌≡◌, refl, Bool, true, false, ◌&&◌, List, [], ◌∷◌, ◌++◌, eqb, length, take}
-use Rattle.std.proofs.Common.{sym, ◌∙◌, ⊎_elim, arith, ext_get_or}
-use Rattle.std.proofs.Math.Logic.{dite}
-use Rattle.std.proofs.Math.Decide.{ℕ_discrete}
+use Rattle.std.specs.Prelude.{Option, None, Some, ℕ, ◌+◌, ◌-◌, ◌≤◌, ◌<◌, ◌≡◌, refl, Bool, true, false, ◌&&◌, List, [], ◌∷◌, ◌++◌, eqb, length, take}
+use Rattle.std.proofs.Common.{ap, sym, ◌∙◌, ⊎_elim, arith, ext_get_or}
 use Rattle.lists.specs.Lists.{All, There}
 use Rattle.rows.specs.Pad.{below?}
 use Rattle.values.specs.declared.Ty.{Ty}
@@ -13,6 +11,7 @@ use Rattle.programs.specs.Program.{Variable, Stmt, Action, State}
 use Rattle.machines.specs.Config.{Choice}
 use Rattle.texts.specs.Forms.{event_line, machine_line, var_line, expr_line, stmt_line, action_line, state_line, start_line, choice_line}
 use Rattle.texts.specs.Reading.{next, room}
+use Rattle.tables.specs.declared.Kind.{Kind}
 use Rattle.tables.specs.Decode.{no_variable}
 use Rattle.tabled.specs.Tabled.{byte_of, event_table, expr_table, move_table, choice_table}
 use Rattle.spoken.specs.Spoken.{line_at}
@@ -69,19 +68,19 @@ module _ (vs : List Variable) (ms : ℕ) where
   first_none : (a : ℕ) → All (λ v. There ms v.of) vs → FirstAbsent vs ms a → ⊥
   first_none a h k = k.absent (every_at (λ v. There ms v.of) no_variable vs a k.here.0 k.here.1 h)
 
-  -- the number of the first
-  absent_one : (a b : ℕ) → (a ≡ 0 → All (λ v. There ms v.of) vs) → ((a ≡ 0 → ⊥) → FirstAbsent vs ms a) → (b ≡ 0 → All (λ v. There ms v.of) vs) → ((b ≡ 0 → ⊥) → FirstAbsent vs ms b) → a ≡ b
-  absent_one a b f g h k = dite (ℕ_discrete a 0)
-      (λ (p : a ≡ 0). dite (ℕ_discrete b 0) (λ (q : b ≡ 0). p ∙ sym q) (λ q. absurd (first_none b (f p) (k q))))
-      (λ p. dite (ℕ_discrete b 0)
-      (λ (q : b ≡ 0). absurd (first_none a (h q) (g p)))
-      (λ q. ⊎_elim
-      (λ (l : a < b). absurd (first_low a b (g p) (k q) l))
-      (λ (l : b ≤ a). ⊎_elim (λ (m : b < a). absurd (first_low b a (k q) (g p) m)) (λ (m : a ≤ b). omega arith) (below? b a))
-      (below? a b)))
+  -- which one it is
+  absent_one : (a b : Option ℕ) → (a ≡ None → All (λ v. There ms v.of) vs) → ((i : ℕ) → a ≡ Some i → FirstAbsent vs ms i) → (b ≡ None → All (λ v. There ms v.of) vs)
+      → ((i : ℕ) → b ≡ Some i → FirstAbsent vs ms i) → a ≡ b
+  absent_one None None f g h k = refl
+  absent_one None (Some j) f g h k = absurd (first_none j (f refl) (k j refl))
+  absent_one (Some i) None f g h k = absurd (first_none i (h refl) (g i refl))
+  absent_one (Some i) (Some j) f g h k = ap (λ (n : ℕ). Some n) (⊎_elim
+      (λ (l : i < j). absurd (first_low i j (g i refl) (k j refl) l))
+      (λ (l : j ≤ i). ⊎_elim (λ (m : j < i). absurd (first_low j i (k j refl) (g i refl) m)) (λ (m : i ≤ j). omega arith) (below? j i))
+      (below? i j))
 
   -- all of it
-  pub variables_one : (x y : List ℕ × List ℕ × List ℕ × ℕ × ℕ) → VariablesHeld vs ms x.0 x.1 x.2 x.3 x.4 → VariablesHeld vs ms y.0 y.1 y.2 y.3 y.4 → x ≡ y
+  pub variables_one : (x y : List ℕ × List ℕ × List ℕ × ℕ × Option ℕ) → VariablesHeld vs ms x.0 x.1 x.2 x.3 x.4 → VariablesHeld vs ms y.0 y.1 y.2 y.3 y.4 → x ≡ y
   variables_one x y h k = λ i. ((tables i).0, (tables i).1, rooms i, (h.count ∙ sym k.count) i, absent i)
     where
       absent : x.4 ≡ y.4
@@ -91,9 +90,11 @@ module _ (vs : List Variable) (ms : ℕ) where
       rooms = ext_get_or 0 x.2 y.2 (h.size ∙ sym k.size) (λ j l. let b : j ≤ KINDS = omega (arith, h.size) in h.counts j b ∙ sym (k.counts j b))
 
       tables : ◌≡◌ {A = List ℕ × List ℕ} (x.0, x.1) (y.0, y.1)
-      tables = dite (ℕ_discrete x.4 0)
-          (λ z. variable_tables_one vs (x.0, x.1) (y.0, y.1) (h.tables z) (k.tables (sym absent ∙ z)))
-          (λ z. variable_tables_one (take (x.4 - 1) vs) (x.0, x.1) (y.0, y.1) (h.front z) (rw absent (k.front (λ e. z (absent ∙ e)))))
+      tables = go x.4 refl
+        where
+          go : (a : Option ℕ) → x.4 ≡ a → ◌≡◌ {A = List ℕ × List ℕ} (x.0, x.1) (y.0, y.1)
+          go None z = variable_tables_one vs (x.0, x.1) (y.0, y.1) (h.tables z) (k.tables (sym absent ∙ z))
+          go (Some i) z = variable_tables_one (take (i - 1) vs) (x.0, x.1) (y.0, y.1) (h.front i z) (k.front i (sym absent ∙ z))
 
 -- EACH KIND OF LINE, in form number row and at its places of the text s
 module _ (s places : List ℕ) where
@@ -118,20 +119,20 @@ module _ (s places : List ℕ) where
       took_one (λ z. z ≡ kinds + 1) (λ z. z ≡ kinds) (one_result (kinds + 1)) (one_result kinds) r t x y (h l.0 l.1) (k l.0 l.1)
 
   -- what `taking::take_variable` ensures, of the owners, the types, the counts, how many there are and the first whose kind is not there
-  abbrev VariableTaken : ℕ → ℕ → List ℕ × List ℕ × List ℕ × ℕ × ℕ → Bool → List ℕ × List ℕ × List ℕ × ℕ × ℕ → Type 0
+  abbrev VariableTaken : ℕ → ℕ → List ℕ × List ℕ × List ℕ × ℕ × Option ℕ → Bool → List ℕ × List ℕ × List ℕ × ℕ × Option ℕ → Type 0
   VariableTaken row kinds e r x = (h : Variables kinds e.0 e.1 e.2 e.3 e.4) (i : ℕ) (v : Variable) → line_at s places row ≡ var_line i v
       → Took r (eqb i (length h.rows + 1) && room kinds v.of h.rows)
       (VariablesHeld (h.rows ++ v ∷ []) kinds x.0 x.1 x.2 x.3 x.4)
       (Kept e.0 e.1 e.2 e.3 e.4 x.0 x.1 x.2 x.3 x.4)
 
-  pub variable_one : (row : ℕ) → (6 ≤ row) × (row ≤ 9) → (kinds : ℕ) (e : List ℕ × List ℕ × List ℕ × ℕ × ℕ) → Variables kinds e.0 e.1 e.2 e.3 e.4 → (r t : Bool)
-      (x y : List ℕ × List ℕ × List ℕ × ℕ × ℕ) → VariableTaken row kinds e r x → VariableTaken row kinds e t y → (r ≡ t) × (x ≡ y)
+  pub variable_one : (row : ℕ) → (6 ≤ row) × (row ≤ 9) → (kinds : ℕ) (e : List ℕ × List ℕ × List ℕ × ℕ × Option ℕ) → Variables kinds e.0 e.1 e.2 e.3 e.4 → (r t : Bool)
+      (x y : List ℕ × List ℕ × List ℕ × ℕ × Option ℕ) → VariableTaken row kinds e r x → VariableTaken row kinds e t y → (r ≡ t) × (x ≡ y)
   variable_one row b kinds e held r t x y h k =
       let l = variable_row s places row b.0 (omega (arith, b.1)) in
       took_one (λ z. VariablesHeld (held.rows ++ l.1 ∷ []) kinds z.0 z.1 z.2 z.3 z.4) (λ z. Kept e.0 e.1 e.2 e.3 e.4 z.0 z.1 z.2 z.3 z.4)
       (variables_one (held.rows ++ l.1 ∷ []) kinds) kept_one r t x y (h held l.0 l.1 l.2) (k held l.0 l.1 l.2)
     where
-      kept_one : (x y : List ℕ × List ℕ × List ℕ × ℕ × ℕ) → Kept e.0 e.1 e.2 e.3 e.4 x.0 x.1 x.2 x.3 x.4
+      kept_one : (x y : List ℕ × List ℕ × List ℕ × ℕ × Option ℕ) → Kept e.0 e.1 e.2 e.3 e.4 x.0 x.1 x.2 x.3 x.4
           → Kept e.0 e.1 e.2 e.3 e.4 y.0 y.1 y.2 y.3 y.4 → x ≡ y
       kept_one x y h k = λ i.
           ((h.owners ∙ sym k.owners) i, (h.holds ∙ sym k.holds) i, (h.rooms ∙ sym k.rooms) i, (h.variables ∙ sym k.variables) i, (h.absent ∙ sym k.absent) i)
@@ -155,10 +156,10 @@ module _ (s places : List ℕ) where
   move_one moves n held x y h k = h held ∙ sym (k held)
 
   -- what `taking::take_start` ensures
-  abbrev StartTaken : ℕ → Type 0
-  StartTaken x = (k : ℕ) → line_at s places 41 ≡ start_line k → x ≡ 1 + byte_of k
+  abbrev StartTaken : Option Kind → Type 0
+  StartTaken x = (k : ℕ) → line_at s places 41 ≡ start_line k → x ≡ Some (record { 0 = byte_of k })
 
-  pub start_one : (x y : ℕ) → StartTaken x → StartTaken y → x ≡ y
+  pub start_one : (x y : Option Kind) → StartTaken x → StartTaken y → x ≡ y
   start_one x y h k = let l = start_row s places 41 (omega arith) (omega arith) in h l.0 l.1 ∙ sym (k l.0 l.1)
 
   -- what `taking::take_choice` ensures, of the choices and how many there are

@@ -1,16 +1,16 @@
 // Values, their types and the operators on them. What they mean stands in specs/Values.antt.
 #![tactic(auto)]
 
-ghost use Rattle.std.specs.Prelude.{◌≡◌, ◌+ℤ◌, ◌-ℤ◌, neg_ℤ};
+ghost use Rattle.std.specs.Prelude.{◌≡◌};
 ghost use Rattle.values.specs.Values.{checked, apply1, apply2, suits};
 ghost use Rattle.values.specs.Words.{int_of};
 
 // A live machine's number: the wrapping keeps it apart from a machine kind's.
 #[repr(C)]
-#[derive(Clone, Copy)]
+#[derive(Clone, Copy, Debug, PartialEq, Eq)]
 pub struct Live(pub u32);
 
-#[derive(Clone, Copy)]
+#[derive(Clone, Copy, Debug, PartialEq, Eq)]
 pub enum Ty {
     Void,
     Bool,
@@ -19,7 +19,7 @@ pub enum Ty {
     Id,
 }
 
-#[derive(Clone, Copy)]
+#[derive(Clone, Copy, Debug, PartialEq, Eq)]
 pub enum Value {
     Undefined,
     Bool(bool),
@@ -28,13 +28,13 @@ pub enum Value {
     Id(Live),
 }
 
-#[derive(Clone, Copy)]
+#[derive(Clone, Copy, Debug, PartialEq, Eq)]
 pub enum Unary {
     Not,
     Neg,
 }
 
-#[derive(Clone, Copy)]
+#[derive(Clone, Copy, Debug, PartialEq, Eq)]
 pub enum Binary {
     Add,
     Sub,
@@ -46,127 +46,33 @@ pub enum Binary {
 pub fn checked(z: i64) -> Value
     ensures { result ≡ checked z }
 {
-    if z < -2147483648 {
-        return Value::Undefined;
-    }
-    if 2147483647 < z {
-        return Value::Undefined;
-    }
-    Value::Int(z as i32)
-}
-
-// The sum of two ints, in 64 bits so that it does not wrap.
-fn add_ints(a: i32, b: i32) -> Value
-    ensures { result ≡ checked (a +ℤ b) }
-{
-    checked(a as i64 + b as i64)
-}
-
-// Their difference.
-fn sub_ints(a: i32, b: i32) -> Value
-    ensures { result ≡ checked (a -ℤ b) }
-{
-    checked(a as i64 - b as i64)
-}
-
-// The negative of an int.
-fn neg_int(a: i32) -> Value
-    ensures { result ≡ checked (neg_ℤ a) }
-{
-    checked(0 - a as i64)
-}
-
-// `add`, on values of any type.
-fn add(x: Value, y: Value) -> Value
-    ensures { result ≡ apply2 Binary.Add x y }
-{
-    match x {
-        Value::Int(a) => match y {
-            Value::Int(b) => add_ints(a, b),
-            _ => Value::Undefined,
-        },
-        _ => Value::Undefined,
+    match i32::try_from(z) {
+        Ok(a) => Value::Int(a),
+        Err(_) => Value::Undefined,
     }
 }
 
-// `sub`.
-fn sub(x: Value, y: Value) -> Value
-    ensures { result ≡ apply2 Binary.Sub x y }
-{
-    match x {
-        Value::Int(a) => match y {
-            Value::Int(b) => sub_ints(a, b),
-            _ => Value::Undefined,
-        },
-        _ => Value::Undefined,
-    }
-}
-
-// `neg`.
-fn neg(x: Value) -> Value
-    ensures { result ≡ apply1 Unary.Neg x }
-{
-    match x {
-        Value::Int(a) => neg_int(a),
-        _ => Value::Undefined,
-    }
-}
-
-// `and`, which works out both sides.
-fn and(x: Value, y: Value) -> Value
-    ensures { result ≡ apply2 Binary.And x y }
-{
-    match x {
-        Value::Bool(a) => match y {
-            Value::Bool(b) => Value::Bool(a & b),
-            _ => Value::Undefined,
-        },
-        _ => Value::Undefined,
-    }
-}
-
-// `or`, which does too.
-fn or(x: Value, y: Value) -> Value
-    ensures { result ≡ apply2 Binary.Or x y }
-{
-    match x {
-        Value::Bool(a) => match y {
-            Value::Bool(b) => Value::Bool(a | b),
-            _ => Value::Undefined,
-        },
-        _ => Value::Undefined,
-    }
-}
-
-// `not`.
-fn not(x: Value) -> Value
-    ensures { result ≡ apply1 Unary.Not x }
-{
-    match x {
-        Value::Bool(a) => Value::Bool(!a),
-        _ => Value::Undefined,
-    }
-}
-
-// What the operator gives of one value.
+// What the operator gives of one value. A negative is worked out in 64 bits, so that it does not wrap.
 pub fn apply1(op: Unary, x: Value) -> Value
     ensures { result ≡ apply1 op x }
 {
-    match op {
-        Unary::Not => not(x),
-        Unary::Neg => neg(x),
+    match (op, x) {
+        (Unary::Not, Value::Bool(a)) => Value::Bool(!a),
+        (Unary::Neg, Value::Int(a)) => checked(-i64::from(a)),
+        _ => Value::Undefined,
     }
 }
 
-// And of two.
+// And of two: sums and differences in 64 bits too, `and` and `or` of both sides.
 pub fn apply2(op: Binary, x: Value, y: Value) -> Value
     ensures { result ≡ apply2 op x y }
 {
-    match op {
-        Binary::Add => add(x, y),
-        Binary::Sub => sub(x, y),
-        Binary::And => and(x, y),
-        Binary::Or => or(x, y),
+    match (op, x, y) {
+        (Binary::Add, Value::Int(a), Value::Int(b)) => checked(i64::from(a) + i64::from(b)),
+        (Binary::Sub, Value::Int(a), Value::Int(b)) => checked(i64::from(a) - i64::from(b)),
+        (Binary::And, Value::Bool(a), Value::Bool(b)) => Value::Bool(a & b),
+        (Binary::Or, Value::Bool(a), Value::Bool(b)) => Value::Bool(a | b),
+        _ => Value::Undefined,
     }
 }
 
@@ -176,40 +82,20 @@ pub fn suits(t: Ty, v: Value) -> bool
 {
     match v {
         Value::Undefined => true,
-        Value::Bool(_) => match t {
-            Ty::Void => false,
-            Ty::Bool => true,
-            Ty::Int => false,
-            Ty::Event => false,
-            Ty::Id => false,
-        },
-        Value::Int(_) => match t {
-            Ty::Void => false,
-            Ty::Bool => false,
-            Ty::Int => true,
-            Ty::Event => false,
-            Ty::Id => false,
-        },
-        Value::Event(_) => match t {
-            Ty::Void => false,
-            Ty::Bool => false,
-            Ty::Int => false,
-            Ty::Event => true,
-            Ty::Id => false,
-        },
-        Value::Id(_) => match t {
-            Ty::Void => false,
-            Ty::Bool => false,
-            Ty::Int => false,
-            Ty::Event => false,
-            Ty::Id => true,
-        },
+        Value::Bool(_) => t == Ty::Bool,
+        Value::Int(_) => t == Ty::Int,
+        Value::Event(_) => t == Ty::Event,
+        Value::Id(_) => t == Ty::Id,
     }
 }
 
-// The int that a word stands for: the word less 2147483648.
+// The word of the int 0: words count the ints from the lowest upward.
+pub const WORD_OF_ZERO: i64 = 2147483648;
+
+// The int that a word stands for.
+// stays: no plainer: a word counts from the lowest int, so that it is not the i32 of a cast or a From
 pub fn int_of(x: u32) -> i32
     ensures { result ≡ int_of x }
 {
-    (x as i64 - 2147483648) as i32
+    (i64::from(x) - WORD_OF_ZERO) as i32
 }

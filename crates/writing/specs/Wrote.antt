@@ -1,12 +1,14 @@
 -- Bytes written into a lent buffer from a place on, with the place behind them as the result; and one writing behind another.
-use Rattle.std.specs.Prelude.{ℕ, suc, ◌+◌, ◌≤◌, ◌<◌, ◌≡◌, refl, drop, set}
+use Rattle.std.specs.Prelude.{ℕ, suc, ◌+◌, ◌-◌, ◌≤◌, ◌<◌, ◌≡◌, refl, drop, set}
 use Rattle.std.proofs.Math.Path.{ap}
 use Rattle.std.proofs.Common.{sym, ◌∙◌, zero-add, add-one, arith, take-append-drop, take_at, length-take-le}
 use mathlib.Core.List.{List, [], ◌∷◌, ◌++◌, append_assoc, append-nil}
 use Rattle.std.proofs.Math.Nat.{add-zero, add_assoc}
 use Rattle.std.proofs.Math.ListN.{length, take, length-append}
 use Rattle.std.proofs.Math.Seq.{set_split, append_snoc, take-length, drop-append-add, drop-drop}
+use borrow.Rule.Slice.PartMut.{put_mid}
 use Rattle.rows.specs.Part.{part, put, put_length}
+use Rattle.copies.specs.Copies.{put_of_mid}
 
 -- ROWS PUT BEHIND ONE ANOTHER
 module _ {A : Type 0} where
@@ -53,6 +55,10 @@ wrote_none at old = record { place = sym (add-zero at); holds = sym (put_none at
 -- one byte
 pub wrote_one : (b at : ℕ) (old : List ℕ) → at < length old → Wrote (b ∷ []) at old (at + 1) (set old at b)
 wrote_one b at old h = record { place = refl; holds = put_one at b old h }
+
+-- a word written over a part
+pub wrote_word : (word : List ℕ) (at : ℕ) (old : List ℕ) {behind : ℕ} {new : List ℕ} → behind ≡ at + length word → new ≡ put_mid at (behind - at) old word → Wrote word at old behind new
+wrote_word word at old {behind} p e = record { place = p; holds = e ∙ put_of_mid at (behind - at) old word (omega arith) }
 
 -- a whole word copied
 pub wrote_copy : (word : List ℕ) (at : ℕ) (old : List ℕ) {new : List ℕ} → new ≡ put at (part 0 (length word) word) old → Wrote word at old (at + length word) new

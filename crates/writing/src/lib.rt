@@ -1,4 +1,5 @@
 // Words and numbers written as bytes into a lent buffer, from a place on; each function answers the place behind what it wrote.
+// stays: no plainer: `write!` of std answers an error where a buffer is too short, and here the room is asked for; so a place goes in, and the place behind comes out
 #![tactic(auto)]
 
 ghost use Rattle.std.specs.Prelude.{[], ◌∷◌, ◌++◌};
@@ -20,8 +21,9 @@ pub fn write_word(out: &mut [u8], at: usize, word: &[u8]) -> usize
     requires { Room word.now at out.old }
     ensures { Wrote word.now at out.old result out.new }
 {
-    copies::copy_u8(out, at, word, 0, word.len());
-    at + word.len()
+    let end = at + word.len();
+    out[at..end].copy_from_slice(word);
+    end
 }
 
 // The digits of a number: those of its tenth, and the last one behind them.
@@ -30,10 +32,10 @@ pub fn write_numeral(out: &mut [u8], at: usize, n: usize) -> usize
     ensures { Wrote (numeral n) at out.old result out.new }
 {
     if n < 10 {
-        return write_byte(out, at, (48 + n) as u8);
+        return write_byte(out, at, b'0' + n as u8);
     }
     let last = write_numeral(out, at, n / 10);
-    write_byte(out, last, (48 + n % 10) as u8)
+    write_byte(out, last, b'0' + (n % 10) as u8)
 }
 
 // A key and the number that is its value.

@@ -1,8 +1,9 @@
--- A run of zeros in a list, and the loop that looks for one: it keeps the greatest number that it has seen.
-use Rattle.std.specs.Prelude.{ℕ, ◌+◌, ◌≤◌, ◌<◌, ◌≡◌, refl, List, eqb, length, get_or}
-use Rattle.std.proofs.Common.{arith}
-use Rattle.lists.specs.Tells.{Tells, form, equal}
-use Rattle.lists.specs.Facts.{range_more}
+-- A run of zeros in a list, and the test of one.
+use Rattle.std.specs.Prelude.{ℕ, zero, suc, ◌+◌, ◌-◌, ◌≤◌, ◌<◌, ◌≡◌, refl, Bool, List, [], ◌∷◌, nat_eq, length, get_or, slice_range}
+use Rattle.std.specs.List.{list_all}
+use Rattle.std.proofs.Common.{ap, sym, ◌∙◌, subst, arith}
+use Rattle.lists.specs.Tells.{Tells, form, equal, granted, both}
+use Rattle.rows.specs.Part.{part, part_length, part_get}
 
 -- A RUN OF ZEROS
 -- the places from `from` on, up to `to`
@@ -14,40 +15,23 @@ pub record Run (xs : List ℕ) (from to : ℕ) : Type 0 where
 abbrev pub Zeros : ℕ → ℕ → List ℕ → Type 0
 Zeros from to xs = (k : ℕ) → from ≤ k → k < to → get_or xs k 0 ≡ 0
 
--- THE LOOP: `most` is the greatest number from `from` on, up to k, as far as being 0 goes
-pub record Seen (xs : List ℕ) (from to most k : ℕ) : Type 0 where
-  pub low : from ≤ k
-  pub high : k ≤ to
-  pub so_far : most ≡ 0 → Zeros from k xs
-  pub back : Zeros from k xs → most ≡ 0
+-- THE TEST of the numbers of a run, one after the other, tells whether they are zeros
+all_zero : (xs : List ℕ) → Tells (list_all (λ x. nat_eq x 0) xs) ((j : ℕ) → j < length xs → get_or xs j 0 ≡ 0)
+all_zero [] = granted (λ j h. refl)
+all_zero (x ∷ xs) = form (both (equal x 0) (all_zero xs)) there (λ f. (f 0 (omega arith), λ j h. f (suc j) (omega arith)))
+  where
+    there : (x ≡ 0) × ((j : ℕ) → j < length xs → get_or xs j 0 ≡ 0) → (j : ℕ) → j < suc (length xs) → get_or (x ∷ xs) j 0 ≡ 0
+    there t zero h = t.0
+    there t (suc j) h = t.1 j (omega arith)
 
--- before the first turn
-pub seen_none : {xs : List ℕ} {from to : ℕ} → Run xs from to → Seen xs from to 0 from
-seen_none r = record { low = omega arith; high = r.ordered; so_far = λ e k a b. absurd (omega arith); back = λ z. refl }
-
-module _ {xs : List ℕ} {from to most k : ℕ} (seen : Seen xs from to most k) where
-  -- one more place
-  more : get_or xs k 0 ≡ 0 → Zeros from k xs → Zeros from (k + 1) xs
-  more e z = range_more (λ j. get_or xs j 0 ≡ 0) from k z e
-
-  -- a turn that meets a greater number
-  pub seen_greater : k < to → most < get_or xs k 0 → Seen xs from to (get_or xs k 0) (k + 1)
-  seen_greater h g = record {
-    low = omega arith;
-    high = omega arith;
-    so_far = λ e. absurd (omega arith);
-    back = λ z. z k seen.low (omega arith);
-  }
-
-  -- and one that does not
-  pub seen_same : k < to → get_or xs k 0 ≤ most → Seen xs from to most (k + 1)
-  seen_same h l = record {
-    low = omega arith;
-    high = omega arith;
-    so_far = λ e. more (omega arith) (seen.so_far e);
-    back = λ z. seen.back (λ j a b. z j a (omega arith));
-  }
-
-  -- after the last turn
-  pub seen_all : to ≤ k → Tells (eqb most 0) (Zeros from to xs)
-  seen_all h = let e : k ≡ to = omega arith in form (equal most 0) (λ z. rw e at (seen.so_far z)) (λ z. seen.back (rw e z))
+pub zeros_told : {xs : List ℕ} {from to : ℕ} {b : Bool} → Run xs from to → b ≡ list_all (λ x. nat_eq x 0) (slice_range xs from to) → Tells b (Zeros from to xs)
+unfolding part
+zeros_told {xs} {from} {to} {b} r e =
+    let long : length (part from (to - from) xs) ≡ to - from = part_length from (to - from) xs (omega (arith, r.ordered, r.inside)) in
+    let t : Tells b ((j : ℕ) → j < length (part from (to - from) xs) → get_or (part from (to - from) xs) j 0 ≡ 0) =
+    subst (λ (c : Bool). Tells c ((j : ℕ) → j < length (part from (to - from) xs) → get_or (part from (to - from) xs) j 0 ≡ 0)) (sym e) (all_zero (part from (to - from) xs)) in
+    form t
+    (λ f k h l.
+    let q : k ≡ from + (k - from) = omega arith in
+    ap (λ (j : ℕ). get_or xs j 0) q ∙ sym (part_get from (to - from) xs (k - from) 0 (omega arith)) ∙ f (k - from) (omega arith))
+    (λ z j h. part_get from (to - from) xs j 0 (omega arith) ∙ z (from + j) (omega arith) (omega arith))

@@ -35,7 +35,12 @@ pub fn load(text: &[u8]) -> Result<(Program, Vec<Choice>), Refusal> {
     let loaded = raw::load(text);
     Answer::of(loaded.answer).map_err(|answer| Refusal { answer, line: loaded.line })?;
     let choices = loaded.choices[..loaded.count].iter().map(|&number| Choice::of(number)).collect();
-    Ok((Program { raw: Box::new(loaded.program) }, choices))
+    Ok((Program { raw: boxed(&loaded.program) }, choices))
+}
+
+/// A program on the heap, copied by a function of its own, so that the call of the loader has no room for the copy on its stack.
+fn boxed(program: &raw::Program) -> Box<raw::Program> {
+    Box::new(*program)
 }
 
 impl Program {

@@ -47,6 +47,9 @@ impl Program {
     pub const KINDS: usize = 16;
     pub const VARIABLES: usize = 16;
     pub const ALL_VARIABLES: usize = Program::KINDS * Program::VARIABLES;
+    pub const THIS: usize = Program::VARIABLES;
+    pub const MSG: usize = Program::VARIABLES + 1;
+    pub const ARG: usize = Program::VARIABLES + 2;
     pub const EXPRESSIONS: usize = 1024;
     pub const STATEMENTS: usize = 1024;
     pub const PAIRS: usize = 15000;

@@ -1,39 +1,54 @@
--- `accepting::accepted_on` meets its contract: the loop has found every room before the k-th as it should be.
-use mathlib.Core.Path.{◌≡◌, refl}
-use native.Mathlib.Omega.{arith}
-use borrow.Author.Count.{below_more}
-use Rattle.configs.specs.Flat.{flat}
-use Rattle.accepting.specs.Asked.{not_one_low, not_one_high, not_one_distinct, not_one_room, one}
+-- `accepting::accepted_on` meets its contract: the next live number, distinct numbers, and each room. Assumes nothing.
+use Rattle.std.specs.Prelude.{ℕ, ◌≡◌, ◌≤◌, ◌<◌, Bool, true, false, List, MatchBool, eqb, length, refl}
+use Rattle.std.specs.List.{AllWithin, HoldsAt, range_with_len}
+use Rattle.std.proofs.Common.{sym, ◌∙◌, true≢false, eq-eqb, arith, rules}
+use Rattle.std.proofs.lemmas.Iterator.{cases_from_all, YieldsList-from_range}
+use Rattle.lists.specs.Tells.{Tells, form, isnt, at_most_lem, second, first_only, refuted, denied}
+use Rattle.programs.specs.Program.{Program}
+use Rattle.acceptance.specs.Accepted.{Distinct}
+use Rattle.configs.specs.Flat.{flat_config}
+use Rattle.zeros.specs.Each.{Answers, below_told}
+use Rattle.accepting.specs.Rooms.{RoomFit}
+use Rattle.accepting.specs.Asked.{ToldOf, Before, one_told}
 use Rattle.accepting.proofs.accepted_on.Goals as goal
+use Rattle.accepting.proofs.accepted_on.Goals.{Joined-flat-ne0, then-flat-ne0, else-flat-ne0, Joined-flat-le-LIVE_NUMBERS, then-flat-le-LIVE_NUMBERS, else-flat-le-LIVE_NUMBERS, After-all}
 
-pub returns-then-next-eq0 : goal.returns-then-next-eq0
-returns-then-next-eq0 c = λ p t. not_one_low p _ c.if-next-eq0.true
+-- the next live number
+two : (c : Joined-flat-ne0) → Tells c.if-flat-ne0.value ((c.args.flat.now.next ≡ 0 → ⊥) × (c.args.flat.now.next ≤ 65536))
+two c = elim c.if-flat-ne0.branch [
+  | then-flat-ne0 w ↦ rw w.value-is (form (at_most_lem _ 65536) (λ l. (w.if-flat-ne0.true, l)) (λ h. h.1))
+  | else-flat-ne0 w ↦ rw w.value-is (form (isnt (eqb c.args.flat.now.next 0)) (λ e. absurd (true≢false (sym (eq-eqb _ 0 w.if-flat-ne0.false) ∙ e))) (λ h. absurd (h.0 w.if-flat-ne0.false)))
+]
 
-pub returns-then-next-gt-LIVE_NUMBERS : goal.returns-then-next-gt-LIVE_NUMBERS
-returns-then-next-gt-LIVE_NUMBERS c = λ p t. not_one_high p _ c.if-next-gt-LIVE_NUMBERS.true
+-- and distinct numbers
+three : (c : Joined-flat-le-LIVE_NUMBERS) {P : Type 0} → Tells c.if-flat-ne0.value P → (p : Program) → Tells c.if-flat-le-LIVE_NUMBERS.value (P × Distinct (flat_config p c.args.flat.now).rooms)
+three c s p = elim c.if-flat-le-LIVE_NUMBERS.branch [
+  | then-flat-le-LIVE_NUMBERS w ↦ second s w.if-flat-le-LIVE_NUMBERS.true w.value-is (w.distinct_ok.ensures p c.args.flat.now refl)
+  | else-flat-le-LIVE_NUMBERS w ↦ first_only s w.if-flat-le-LIVE_NUMBERS.false w.value-is
+]
 
-pub returns-then-not-distinct_ok : goal.returns-then-not-distinct_ok
-returns-then-not-distinct_ok c =
+-- a test that told no tells that it does not hold
+not_so : (P : ℕ → Type 0) (r : Bool) (xs : List ℕ) → MatchBool r (AllWithin P xs 0 (length xs)) ((k : ℕ) × (k < length xs) × HoldsAt (λ k. Tells false (P k)) xs k) → Answers P r xs
+not_so P true xs h = h
+not_so P false xs h = (h.0, h.1, λ d. denied (h.2 d) refl)
+
+-- the rooms
+rooms : (c : After-all) (p : Program) → ToldOf c.args.program.now c.args.heights.now c.args.served.now p → Tells c.all.result (Before p c.args.flat.now 32)
+rooms c p t =
     let a = c.args in
-    λ p t. not_one_distinct p _ (c.distinct_ok.ensures p (flat a.ids.now a.kinds.now a.depths.now a.states.now a.maps.now a.values.now a.counts.now a.parts.now a.held.now a.waiting.now a.pairs.now a.next) refl) c.if-not-distinct_ok.true
+    let f = a.flat.now in
+    let yes : (k : ℕ) (b : Bool) → ((p : Program) → ToldOf a.program.now a.heights.now a.served.now p → Tells b (RoomFit p f k)) → b ≡ true → RoomFit p f k = λ k b h e. (h p t).holds e in
+    let no : (k : ℕ) (b : Bool) → ((p : Program) → ToldOf a.program.now a.heights.now a.served.now p → Tells b (RoomFit p f k)) → b ≡ false → Tells false (RoomFit p f k) = λ k b h e. refuted (denied (h p t) e) in
+    below_told (RoomFit p f) 32 (not_so (RoomFit p f) c.all.result (range_with_len 0 32)
+    (cases_from_all _ _ _ (RoomFit p f) (λ k. Tells false (RoomFit p f k)) c.all.ensures.ran (YieldsList-from_range 0 32 32 refl (omega arith))
+    (λ x s k. search (yes, rules)) (λ x s k. search (no, rules))))
 
-pub loop-k-init : goal.loop-k-init
-loop-k-init c = (omega arith, λ p t j h. absurd (omega arith))
+pub returns-then-distinct_ok : goal.returns-then-distinct_ok
+returns-then-distinct_ok c = λ p t.
+    let g = goal.at.returns-then-distinct_ok c in
+    one_told p _ (second (three g.Joined-flat-le-LIVE_NUMBERS (two g.Joined-flat-ne0) p) c.if-distinct_ok.true refl (rooms g.After-all p t))
 
-pub room_ok-requires : goal.room_ok-requires
-room_ok-requires c = (c.requires, omega (arith, c.loop-k-test.true))
-
-pub returns-then-not-room_ok : goal.returns-then-not-room_ok
-returns-then-not-room_ok c = λ p t. not_one_room p _ _ (omega (arith, c.loop-k-test.true)) (c.room_ok.ensures p t) c.if-not-room_ok.true
-
-pub loop-k-preserved : goal.loop-k-preserved
-loop-k-preserved c = (
-  omega (arith, c.loop-k-test.true),
-  λ p t. below_more _ _ (c.loop-k.invariant.1 p t) ((c.room_ok.ensures p t).holds c.if-not-room_ok.false),
-)
-
-pub returns : goal.returns
-returns c =
-    let last : c.loop-k.k ≡ 32 = omega (arith, c.loop-k-test.false, c.loop-k.invariant.0) in
-    let a = c.args in
-    λ p t. one p _ c.if-next-eq0.false c.if-next-gt-LIVE_NUMBERS.false (c.distinct_ok.ensures p (flat a.ids.now a.kinds.now a.depths.now a.states.now a.maps.now a.values.now a.counts.now a.parts.now a.held.now a.waiting.now a.pairs.now a.next) refl) c.if-not-distinct_ok.false (rw last at (c.loop-k.invariant.1 p t))
+pub returns-else-distinct_ok : goal.returns-else-distinct_ok
+returns-else-distinct_ok c = λ p t.
+    let g = goal.at.returns-else-distinct_ok c in
+    one_told p _ (first_only (three g.Joined-flat-le-LIVE_NUMBERS (two g.Joined-flat-ne0) p) c.if-distinct_ok.false refl)

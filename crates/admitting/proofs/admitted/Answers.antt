@@ -10,6 +10,6 @@ accepted_on-requires c =
 
 pub returns : goal.returns
 returns c =
-    let q = c.args.program in
+    let q = c.args.program.now in
     c.accepted_on.ensures (program_of q)
     (told_tables q c.requires.sound (c.heights-heights.ensures (program_of q) (stated_program q)) (c.served-served.ensures (program_of q) (peopled_program q)))

@@ -1,22 +1,25 @@
--- `beginnings::initial_state` meets its contract: the states that are passed are of other kinds. Assumes nothing.
-use mathlib.Core.Path.{◌≡◌}
-use mathlib.Core.Logic.{dite}
-use native.Mathlib.Decide.{ℕ_discrete}
-use native.Mathlib.Omega.{arith}
-use Rattle.beginnings.specs.Initial.{initial_here, initial_none}
+-- `beginnings::initial_state` meets its contract: what `find` says of the states' kinds. Assumes nothing.
+use Rattle.std.proofs.Common.{ℕ, ◌≡◌, ◌+◌, ◌≤◌, ◌<◌, List, Option, Some, None, MatchOption, unwrap_or, get_or, ◌∙◌, arith, rules, tests}
+use Rattle.std.proofs.lemmas.Iterator.{first_from_Range, serves_from_Range}
+use Rattle.programs.specs.Sizes.{STATES}
+use Rattle.tables.specs.Decode.{count}
+use Rattle.beginnings.specs.Initial.{initial_in, initial_here, initial_none}
 use Rattle.beginnings.proofs.initial_state.Goals as goal
 
-pub loop-n-init : goal.loop-n-init
-loop-n-init c = (omega arith, omega arith, λ j a b e. omega arith)
+-- the first state of the kind, or 0
+found : (kinds : List ℕ) (m n : ℕ) → n ≡ count STATES kinds → (o : Option ℕ)
+    → MatchOption o ((k : ℕ) → 1 ≤ k → k < n + 1 → get_or kinds k 0 ≡ m → ⊥)
+    (λ i. (1 ≤ i) × (i < n + 1) × (get_or kinds i 0 ≡ m) × ((k : ℕ) → 1 ≤ k → k < i → get_or kinds k 0 ≡ m → ⊥))
+    → unwrap_or o 0 ≡ initial_in kinds m
+found kinds m n e (Some i) h = initial_here kinds m i h.0 (omega (arith, e, h.1)) h.3 h.2
+found kinds m n e None h = initial_none kinds m (n + 1) (omega (arith, e)) h
 
-pub returns-then-kinds-n : goal.returns-then-kinds-n
-returns-then-kinds-n c =
-    initial_here c.args.kinds.now c.args.m c.loop-n.n c.loop-n.invariant.0 (omega (arith, c.state_count-count.ensures, c.loop-n-test.true)) c.loop-n.invariant.2 c.if-kinds-n.true
-
-pub loop-n-preserved : goal.loop-n-preserved
-loop-n-preserved c =
-    (omega arith, omega arith, λ j a b e. dite (ℕ_discrete j c.loop-n.n) (λ (z : j ≡ c.loop-n.n). c.if-kinds-n.false (rw z at e)) (λ (z : j ≡ c.loop-n.n → ⊥). c.loop-n.invariant.2 j a (omega arith) e))
+pub find-requires : goal.find-requires
+find-requires c = record { can = tt; finite = tt; callable = serves_from_Range (λ x q k. search (rules, tests)) (λ x low high. search rules) }
 
 pub returns : goal.returns
 returns c =
-    initial_none c.args.kinds.now c.args.m c.loop-n.n (omega (arith, c.state_count-count.ensures, c.loop-n-test.false)) c.loop-n.invariant.2
+    c.unwrap_or.ensures
+    ∙ found c.args.kinds.now c.args.m _ c.state_count.ensures _
+    (first_from_Range _ _ _ _ (λ i. get_or c.args.kinds.now i 0 ≡ c.args.m) (λ i. get_or c.args.kinds.now i 0 ≡ c.args.m → ⊥) c.find.ensures.ran
+    (λ x q k. search (rules, tests)) (λ x q k. search (rules, tests)))

@@ -1,37 +1,21 @@
--- `checked_queues::pairs_ok` meets its contract: the numbers behind place k are pairs' and apart. Assumes nothing.
-use mathlib.Core.Path.{◌≡◌, sym, ◌∙◌}
-use mathlib.Core.Bool.{true≢false}
-use Prim.Native.Nat.{◌+◌, ◌-◌}
-use Rattle.lists.specs.Tells.{granted, refuted}
-use Rattle.checked_queues.specs.Queues.{apart_none, apart_more, apart_pair, apart_once}
-use native.Mathlib.Omega.{arith}
+-- `checked_queues::pairs_ok` meets its contract: each number is asked. Assumes nothing.
+use Rattle.std.specs.Prelude.{ℕ, ◌≡◌, Bool, true, false, length, refl}
+use Rattle.std.proofs.Common.{arith, rules}
+use Rattle.std.proofs.lemmas.Iterator.{cases_from_all, YieldsList-from_range}
+use Rattle.lists.specs.Tells.{Tells, form, denied}
+use Rattle.programs.specs.Program.{Program}
+use Rattle.tables.specs.Decode.{events_of}
+use Rattle.zeros.specs.Each.{below_told}
+use Rattle.checked_queues.specs.Queues.{Single, singles_apart, apart_singles}
 use Rattle.checked_queues.proofs.pairs_ok.Goals as goal
 
-pub loop-k-init : goal.loop-k-init
-loop-k-init c = (omega arith, λ p q. apart_none p c.args.next c.args.b c.args.n c.args.pairs.now)
-
-pub returns-then-not-pair_ok : goal.returns-then-not-pair_ok
-returns-then-not-pair_ok c =
-    let l = c.loop-k in
-    let a = c.args in
-    λ p q. refuted (λ r. true≢false (sym ((c.pair_ok.ensures p q).test (apart_pair p a.next a.b a.n (l.k - 1) l.k a.pairs.now (omega arith) (omega arith) (omega arith) r)) ∙ c.if-not-pair_ok.true))
-
-pub returns-then-holds : goal.returns-then-holds
-returns-then-holds c =
-    let l = c.loop-k in
-    let a = c.args in
-    λ p q. refuted (λ r. true≢false (sym c.if-holds.true ∙ c.holds.ensures ∙ apart_once p a.next a.b a.n (l.k - 1) l.k a.pairs.now (omega arith) (omega arith) (omega arith) r))
-
-pub loop-k-preserved : goal.loop-k-preserved
-loop-k-preserved c =
-    let l = c.loop-k in
-    let a = c.args in
-    (omega arith, λ p q. apart_more p a.next a.b a.n (l.k - 1) l.k a.pairs.now (omega arith) (omega arith) (omega arith) ((c.pair_ok.ensures p q).holds c.if-not-pair_ok.false) (sym c.holds.ensures ∙ c.if-holds.false) (l.invariant.1 p q))
-
 pub returns : goal.returns
-returns c =
-    let l = c.loop-k in
+returns c = λ p told.
     let a = c.args in
-    let b : a.b + l.k ≡ a.b = omega arith in
-    let n : a.n - l.k ≡ a.n = omega arith in
-    λ p q. granted (rw (b, n) at (l.invariant.1 p q))
+    let l = a.pairs.now in
+    let yes : (j : ℕ) (b : Bool) → ((p : Program) → p.events ≡ events_of a.types.now → Tells b (Single p a.next l j)) → b ≡ true → Single p a.next l j = λ j b t e. (t p told).holds e in
+    let no : (j : ℕ) (b : Bool) → ((p : Program) → p.events ≡ events_of a.types.now → Tells b (Single p a.next l j)) → b ≡ false → Single p a.next l j → ⊥ = λ j b t e. denied (t p told) e in
+    form (below_told (Single p a.next l) (length l)
+    (cases_from_all _ _ _ (Single p a.next l) (λ j. Single p a.next l j → ⊥) c.all.ensures.ran (YieldsList-from_range 0 (length l) (length l) refl (omega arith))
+    (λ x q k. search (yes, rules)) (λ x q k. search (no, rules))))
+    (singles_apart p a.next l) (apart_singles p a.next l)

@@ -1,30 +1,27 @@
--- `checked_stacks::map_fits` meets its contract: after e turns the first e entries fit. Assumes nothing.
-use mathlib.Core.Path.{◌≡◌}
-use Prim.Native.Nat.{◌+◌, ◌<◌}
-use lib.ListN.{get_or}
-use Rattle.lists.specs.Tells.{form, refuted, denied}
-use borrow.Author.Count.{below_more}
+-- `checked_stacks::map_fits` meets its contract: each entry, and zeros behind them. Assumes nothing.
+use Rattle.std.specs.Prelude.{ℕ, ◌+◌, ◌<◌, get_or, refl}
+use Rattle.std.proofs.Common.{arith, rules}
+use Rattle.std.proofs.lemmas.Iterator.{cases_from_all, YieldsList-from_slice}
+use Rattle.lists.specs.Tells.{Tells, form, second, first_only}
+use Rattle.zeros.specs.Zeros.{zeros_told}
+use Rattle.zeros.specs.Each.{run_told, yes, no}
 use Rattle.checked_stacks.specs.CheckedStacks.{EntryFits}
-use native.Mathlib.Omega.{arith}
-use borrow.Author.Rules.{rules}
+use Rattle.checked_stacks.proofs.map_fits.Goals.{After-all}
 use Rattle.checked_stacks.proofs.map_fits.Goals as goal
 
-pub loop-e-init : goal.loop-e-init
-loop-e-init c = (search rules, λ j l. absurd (omega arith))
-
-pub returns-then-not-entry_fits : goal.returns-then-not-entry_fits
-returns-then-not-entry_fits c =
+-- the entries
+each : (c : After-all) → Tells c.all.result ((e : ℕ) → e < c.args.events → EntryFits c.args.«action_of».now c.args.kind (get_or c.args.maps.now (c.args.b + e) 0))
+each c =
     let a = c.args in
-    let b : c.loop-e.e < a.events = c.loop-e-test.true in
-    refuted (λ h. denied c.entry_fits.ensures c.if-not-entry_fits.true (rw c.index.ensures (h.each c.loop-e.e b)))
+    run_told (EntryFits a.«action_of».now a.kind) a.maps.now a.b a.events (omega (arith, c.requires))
+    (cases_from_all _ _ _ (EntryFits a.«action_of».now a.kind) (λ x. EntryFits a.«action_of».now a.kind x → ⊥) c.all.ensures.ran (YieldsList-from_slice _ c.iter.ensures.rest)
+    (λ x q k. search (yes, rules)) (λ x q k. search (no, rules)))
 
-pub loop-e-preserved : goal.loop-e-preserved
-loop-e-preserved c =
-    let a = c.args in
-    let fit = c.entry_fits.ensures.holds c.if-not-entry_fits.false in
-    (search rules, below_more (λ j. EntryFits a.«action_of».now a.kind (get_or a.maps.now (a.b + j) 0)) c.loop-e.e c.loop-e.invariant.1 (rw c.index.ensures at fit))
+pub returns-then-all : goal.returns-then-all
+returns-then-all c =
+    form (second (each (goal.at.returns-then-all c).After-all) c.if-all.true refl (zeros_told (record { ordered = omega arith; inside = omega arith }) c.all_are.ensures))
+    (λ h. record { each = h.0; behind = h.1 }) (λ h. (h.each, h.behind))
 
-pub returns : goal.returns
-returns c =
-    let e : c.loop-e.e ≡ c.args.events = omega arith in
-    form c.zero_u8.ensures (λ z. record { each = rw e at c.loop-e.invariant.1; behind = z }) (λ h. h.behind)
+pub returns-else-all : goal.returns-else-all
+returns-else-all c =
+    form (first_only (each (goal.at.returns-else-all c).After-all) c.if-all.false refl) (λ h. record { each = h.0; behind = h.1 }) (λ h. (h.each, h.behind))

@@ -1,29 +1,28 @@
--- `checked_stacks::maps_fit` meets its contract: after d turns the first d maps fit. Assumes nothing.
-use mathlib.Core.Path.{◌≡◌}
-use Prim.Native.Nat.{◌+◌, ◌*◌, ◌<◌}
-use Rattle.lists.specs.Tells.{form, refuted, denied}
-use borrow.Author.Count.{below_more}
+-- `checked_stacks::maps_fit` meets its contract: each map, and zeros behind them. Assumes nothing.
+use Rattle.std.specs.Prelude.{ℕ, ◌+◌, ◌*◌, ◌<◌, refl}
+use Rattle.std.proofs.Common.{arith, rules}
+use Rattle.std.proofs.lemmas.Iterator.{cases_from_all, YieldsList-from_range}
+use Rattle.lists.specs.Tells.{Tells, form, second, first_only}
+use Rattle.zeros.specs.Zeros.{zeros_told}
+use Rattle.zeros.specs.Each.{below_told, yes, no}
 use Rattle.checked_stacks.specs.CheckedStacks.{MapFits}
-use native.Mathlib.Omega.{arith}
-use borrow.Author.Rules.{rules}
+use Rattle.checked_stacks.proofs.maps_fit.Goals.{After-all}
 use Rattle.checked_stacks.proofs.maps_fit.Goals as goal
 
-pub loop-d-init : goal.loop-d-init
-loop-d-init c = (search rules, λ j l. absurd (omega arith))
-
-pub returns-then-not-map_fits : goal.returns-then-not-map_fits
-returns-then-not-map_fits c =
+-- the maps
+each : (c : After-all) → Tells c.all.result ((d : ℕ) → d < c.args.depth → MapFits c.args.«action_of».now c.args.maps.now c.args.kind c.args.events (c.args.b + d * 64))
+each c =
     let a = c.args in
-    let b : c.loop-d.d < a.depth = c.loop-d-test.true in
-    refuted (λ h. denied c.map_fits.ensures c.if-not-map_fits.true ((h.each c.loop-d.d b)))
+    let fits = λ (d : ℕ). MapFits a.«action_of».now a.maps.now a.kind a.events (a.b + d * 64) in
+    below_told fits a.depth
+    (cases_from_all _ _ _ fits (λ d. fits d → ⊥) c.all.ensures.ran (YieldsList-from_range 0 a.depth a.depth refl (omega arith))
+    (λ x q k. search (yes, rules)) (λ x q k. search (no, rules)))
 
-pub loop-d-preserved : goal.loop-d-preserved
-loop-d-preserved c =
-    let a = c.args in
-    let fit = c.map_fits.ensures.holds c.if-not-map_fits.false in
-    (search rules, below_more (λ j. MapFits a.«action_of».now a.maps.now a.kind a.events (a.b + j * 64)) c.loop-d.d c.loop-d.invariant.1 fit)
+pub returns-then-all : goal.returns-then-all
+returns-then-all c =
+    form (second (each (goal.at.returns-then-all c).After-all) c.if-all.true refl (zeros_told (record { ordered = omega arith; inside = omega arith }) c.all_are.ensures))
+    (λ h. record { each = h.0; behind = h.1 }) (λ h. (h.each, h.behind))
 
-pub returns : goal.returns
-returns c =
-    let e : c.loop-d.d ≡ c.args.depth = omega arith in
-    form c.zero_u8.ensures (λ z. record { each = rw e at c.loop-d.invariant.1; behind = z }) (λ h. h.behind)
+pub returns-else-all : goal.returns-else-all
+returns-else-all c =
+    form (first_only (each (goal.at.returns-else-all c).After-all) c.if-all.false refl) (λ h. record { each = h.0; behind = h.1 }) (λ h. (h.each, h.behind))

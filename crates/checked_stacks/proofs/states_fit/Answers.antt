@@ -1,30 +1,27 @@
--- `checked_stacks::states_fit` meets its contract: after d turns the first d states fit. Assumes nothing.
-use mathlib.Core.Path.{◌≡◌}
-use Prim.Native.Nat.{◌+◌, ◌<◌}
-use lib.ListN.{get_or}
-use Rattle.lists.specs.Tells.{form, refuted, denied}
-use borrow.Author.Count.{below_more}
+-- `checked_stacks::states_fit` meets its contract: each state, and zeros behind them. Assumes nothing.
+use Rattle.std.specs.Prelude.{ℕ, ◌+◌, ◌<◌, get_or, refl}
+use Rattle.std.proofs.Common.{arith, rules}
+use Rattle.std.proofs.lemmas.Iterator.{cases_from_all, YieldsList-from_slice}
+use Rattle.lists.specs.Tells.{Tells, form, second, first_only}
+use Rattle.zeros.specs.Zeros.{zeros_told}
+use Rattle.zeros.specs.Each.{run_told, yes, no}
 use Rattle.checked_stacks.specs.CheckedStacks.{StateFits}
-use native.Mathlib.Omega.{arith}
-use borrow.Author.Rules.{rules}
+use Rattle.checked_stacks.proofs.states_fit.Goals.{After-all}
 use Rattle.checked_stacks.proofs.states_fit.Goals as goal
 
-pub loop-d-init : goal.loop-d-init
-loop-d-init c = (search rules, λ j l. absurd (omega arith))
-
-pub returns-then-not-state_fits : goal.returns-then-not-state_fits
-returns-then-not-state_fits c =
+-- the states
+each : (c : After-all) → Tells c.all.result ((d : ℕ) → d < c.args.depth → StateFits c.args.«state_of».now c.args.kind (get_or c.args.states.now (c.args.b + d) 0))
+each c =
     let a = c.args in
-    let b : c.loop-d.d < a.depth = c.loop-d-test.true in
-    refuted (λ h. denied c.state_fits.ensures c.if-not-state_fits.true (rw c.index.ensures (h.each c.loop-d.d b)))
+    run_told (StateFits a.«state_of».now a.kind) a.states.now a.b a.depth (omega (arith, c.requires))
+    (cases_from_all _ _ _ (StateFits a.«state_of».now a.kind) (λ s. StateFits a.«state_of».now a.kind s → ⊥) c.all.ensures.ran (YieldsList-from_slice _ c.iter.ensures.rest)
+    (λ x q k. search (yes, rules)) (λ x q k. search (no, rules)))
 
-pub loop-d-preserved : goal.loop-d-preserved
-loop-d-preserved c =
-    let a = c.args in
-    let fit = c.state_fits.ensures.holds c.if-not-state_fits.false in
-    (search rules, below_more (λ j. StateFits a.«state_of».now a.kind (get_or a.states.now (a.b + j) 0)) c.loop-d.d c.loop-d.invariant.1 (rw c.index.ensures at fit))
+pub returns-then-all : goal.returns-then-all
+returns-then-all c =
+    form (second (each (goal.at.returns-then-all c).After-all) c.if-all.true refl (zeros_told (record { ordered = omega arith; inside = omega arith }) c.all_are.ensures))
+    (λ h. record { each = h.0; behind = h.1 }) (λ h. (h.each, h.behind))
 
-pub returns : goal.returns
-returns c =
-    let e : c.loop-d.d ≡ c.args.depth = omega arith in
-    form c.zero_u8.ensures (λ z. record { each = rw e at c.loop-d.invariant.1; behind = z }) (λ h. h.behind)
+pub returns-else-all : goal.returns-else-all
+returns-else-all c =
+    form (first_only (each (goal.at.returns-else-all c).After-all) c.if-all.false refl) (λ h. record { each = h.0; behind = h.1 }) (λ h. (h.each, h.behind))

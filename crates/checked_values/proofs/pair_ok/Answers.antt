@@ -18,14 +18,14 @@ returns-then-there c =
     let n = c.event_count-n in
     λ p q.
     let l : length p.events ≡ n.result = ap length q ∙ events_length a.types.now ∙ sym n.ensures in
-    let t : c.event_type.result ≡ event_type p (pair_event a.x) = c.event_type.ensures ∙ sym (ap (λ (l : List Ty). at void l (pair_event a.x)) q) in
-    pair_told p a.next a.x c.typed_ok.result n.result l (sym c.there.ensures ∙ c.if-there.true)
+    let t : c.event_type.result ≡ event_type p (pair_event a.x) = rw c.event_of-e.ensures at c.event_type.ensures ∙ sym (ap (λ (l : List Ty). at void l (pair_event a.x)) q) in
+    pair_told p a.next a.x c.typed_ok.result n.result l (rw c.event_of-e.ensures at (sym c.there.ensures ∙ c.if-there.true))
     (rw (← t) (c.typed_ok.ensures p l))
 
-pub returns : goal.returns
-returns c =
+pub returns-else-there : goal.returns-else-there
+returns-else-there c =
     let a = c.args in
     let n = c.event_count-n in
     λ p q.
     let l : length p.events ≡ n.result = ap length q ∙ events_length a.types.now ∙ sym n.ensures in
-    refuted (pair_absent p a.next a.x n.result l (sym c.there.ensures ∙ c.if-there.false))
+    rw c.if-there.false (refuted (pair_absent p a.next a.x n.result l (rw c.event_of-e.ensures at (sym c.there.ensures ∙ c.if-there.false))))

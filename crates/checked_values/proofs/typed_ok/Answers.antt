@@ -10,7 +10,7 @@ returns-then-value_ok c =
     let a = c.args in
     λ p q. rw (c.suits.ensures, c.value_of.ensures) (typed_told p a.next a.x a.t ((c.value_ok.ensures p q).holds c.if-value_ok.true))
 
-pub returns : goal.returns
-returns c =
+pub returns-else-value_ok : goal.returns-else-value_ok
+returns-else-value_ok c =
     let a = c.args in
-    λ p q. refuted (λ k. true≢false (sym ((c.value_ok.ensures p q).test (untyped p a.next a.x a.t k)) ∙ c.if-value_ok.false))
+    λ p q. rw c.if-value_ok.false (refuted (λ k. true≢false (sym ((c.value_ok.ensures p q).test (untyped p a.next a.x a.t k)) ∙ c.if-value_ok.false)))

@@ -13,7 +13,7 @@ returns-then-canonical c =
     let h : Canonical a.x = (canonical_tells a.x).holds (sym c.canonical.ensures ∙ c.if-canonical.true) in
     λ p q. value_told p a.next a.x c.value_there.result h (rw (← c.value_of.ensures) (c.value_there.ensures p q))
 
-pub returns : goal.returns
-returns c =
+pub returns-else-canonical : goal.returns-else-canonical
+returns-else-canonical c =
     let a = c.args in
-    λ p q. refuted (λ k. true≢false (sym ((canonical_tells a.x).test k.written) ∙ sym c.canonical.ensures ∙ c.if-canonical.false))
+    λ p q. rw c.if-canonical.false (refuted (λ k. true≢false (sym ((canonical_tells a.x).test k.written) ∙ sym c.canonical.ensures ∙ c.if-canonical.false)))

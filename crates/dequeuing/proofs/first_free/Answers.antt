@@ -1,47 +1,50 @@
--- `dequeuing::first_free` meets its contract: after j turns the first j pairs are held back. Assumes nothing.
-use Prim.Native.Nat.{◌<◌}
-use mathlib.Core.Path.{◌≡◌, sym, ap, ◌∙◌}
-use mathlib.Core.Bool.{true}
-use native.Mathlib.Omega.{arith}
-use lib.ListN.{get_or}
+-- `dequeuing::first_free` meets its contract: what `find` says of the queue's places. Assumes nothing.
+use Rattle.std.proofs.Common.{ℕ, ◌≡◌, ◌≤◌, ◌<◌, Bool, true, false, List, Option, Some, None, MatchOption, IfSome, unwrap_or, length, arith, rules, tests}
+use Rattle.std.proofs.lemmas.Iterator.{first_from_Range, serves_from_Range}
+use Rattle.programs.specs.Program.{Program}
 use Rattle.machines.specs.Maps.{held_back}
-use Rattle.maps.specs.Maps.{map_at}
-use borrow.Author.Count.{below_more}
-use Rattle.dequeuing.specs.Search.{event_at, search_asked}
+use Rattle.maps.specs.Maps.{Tables, map_at}
+use Rattle.dequeuing.specs.Search.{First, event_at, search_asked}
 use Rattle.dequeuing.proofs.first_free.Goals as goal
 
-pub loop-j-init : goal.loop-j-init
-loop-j-init c = (omega arith, λ p entries exits t e i h. absurd (omega arith))
+-- what is found of n places
+abbrev Found : (ℕ → Type 0) → (ℕ → Type 0) → ℕ → Option ℕ → Type 0
+Found Yes No n o = MatchOption o ((k : ℕ) → 0 ≤ k → k < n → No k) (λ i. (0 ≤ i) × (i < n) × Yes i × ((k : ℕ) → 0 ≤ k → k < i → No k))
 
-pub held_back-requires : goal.held_back-requires
-held_back-requires c =
-    let a = c.args in
-    rw c.event-e.ensures (search_asked a.k a.b a.n a.waiting.now a.pairs.now c.requires c.loop-j.j c.loop-j-test.true)
+-- whether place j is held back, for every program with these tables
+abbrev Told : List ℕ → List ℕ → List ℕ → List ℕ → List ℕ → ℕ → ℕ → ℕ → Bool → ℕ → Type 0
+Told says kinds flags pairs maps k b n w j =
+    (p : Program) (entries exits : List ℕ) → Tables p says kinds entries exits flags → event_at k pairs j ≤ length p.events → held_back p n (map_at p b maps) (event_at k pairs j) ≡ w
 
-pub returns-then-not-held_back : goal.returns-then-not-held_back
-returns-then-not-held_back c p entries exits t h =
-    let a = c.args in
-    let l = c.loop-j in
-    let j : l.j < get_or a.waiting.now a.k 0 = c.loop-j-test.true in
-    let q : c.event-e.result ≡ event_at a.k a.pairs.now l.j = c.event-e.ensures in
-    record {
-      inside = omega arith;
-      before = l.invariant.1 p entries exits t h;
-      here = λ _. ap (held_back p a.n (map_at p a.b a.maps.now)) (sym q) ∙ sym (c.held_back.ensures p entries exits t (rw q (h l.j j))) ∙ c.if-not-held_back.true;
-    }
+-- a place that is found is one of them
+found_inside : (Yes No : ℕ → Type 0) (n : ℕ) (o : Option ℕ) → Found Yes No n o → IfSome o (λ j. j < n)
+found_inside Yes No n (Some i) h = h.1
+found_inside Yes No n None h = tt
 
-pub loop-j-preserved : goal.loop-j-preserved
-loop-j-preserved c =
+-- it is the first that is not held back
+found_first : (Yes No : ℕ → Type 0) (back : ℕ → Bool) (n : ℕ) (o : Option ℕ) → Found Yes No n o → ((j : ℕ) → j < n → Yes j → back j ≡ false) → ((j : ℕ) → j < n → No j → back j ≡ true)
+    → First back n (unwrap_or o n)
+found_first Yes No back n (Some i) h f g = record {
+  inside = omega (arith, h.1);
+  before = λ j b. g j (omega (arith, b, h.1)) (h.3 j (omega arith) b);
+  here = λ b. f i b h.2;
+}
+found_first Yes No back n None h f g = record { inside = omega arith; before = λ j b. g j b (h j (omega arith) b); here = λ b. absurd (omega (arith, b)) }
+
+pub find-requires : goal.find-requires
+find-requires c =
     let a = c.args in
-    let l = c.loop-j in
-    let j : l.j < get_or a.waiting.now a.k 0 = c.loop-j-test.true in
-    let q : c.event-e.result ≡ event_at a.k a.pairs.now l.j = c.event-e.ensures in (
-      omega arith,
-      λ p entries exits t h. below_more (λ i. held_back p a.n (map_at p a.b a.maps.now) (event_at a.k a.pairs.now i) ≡ true) l.j (l.invariant.1 p entries exits t h)
-          (ap (held_back p a.n (map_at p a.b a.maps.now)) (sym q) ∙ sym (c.held_back.ensures p entries exits t (rw q (h l.j j))) ∙ c.if-not-held_back.false),
-    )
+    let asked = search_asked a.k a.b a.n a.waiting.now a.pairs.now c.requires in
+    record { can = tt; finite = tt; callable = serves_from_Range (λ x q k. search (rules, tests)) (λ x low high. let e = asked x high in search rules) }
 
 pub returns : goal.returns
-returns c p entries exits t h =
-    let l = c.loop-j in
-    record { inside = omega arith; before = l.invariant.1 p entries exits t h; here = λ i. absurd (omega arith) }
+returns c =
+    let a = c.args in
+    let told = Told a.says.now a.program.now.state_of a.program.now.defers a.pairs.now a.maps.now a.k a.b a.n in
+    let h = first_from_Range _ _ _ _ (told false) (told true) c.find.ensures.ran
+    (λ x q k p entries exits t l. search (rules, tests))
+    (λ x q k. (search (rules, tests), λ p entries exits t l. search (rules, tests))) in
+    record {
+      inside = found_inside _ _ _ _ h;
+      first = λ p entries exits t l. found_first _ _ _ _ _ h (λ j b y. y p entries exits t (l j b)) (λ j b y. y p entries exits t (l j b));
+    }

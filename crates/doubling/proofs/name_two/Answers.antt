@@ -3,4 +3,4 @@ use Rattle.doubling.specs.Doubling.{named_both}
 use Rattle.doubling.proofs.name_two.Goals as goal
 
 pub returns : goal.returns
-returns c = rw c.either.ensures (named_both c.name-a.ensures c.name-b.ensures)
+returns c = named_both c.name.ensures c.name-2.ensures

@@ -1,6 +1,6 @@
 -- `evaluation::eval` meets its contract, by the number of the expression, which falls at each call: each form of an expression gives what the law of its
 -- tree says of what its parts give. Assumes nothing.
-use Rattle.std.proofs.Common.{◌≡◌, ℕ, ◌*◌, ◌/◌, ◌≤◌, ◌<◌, List, sym, ◌∙◌}
+use Rattle.std.proofs.Common.{◌≡◌, ℕ, ◌*◌, ◌/◌, ◌≤◌, ◌<◌, List, sym, ◌∙◌, arith}
 use Rattle.tables.specs.Decode.{exprs_of}
 use Rattle.evaluation.specs.Evaluated.{store_in, just_exprs, REST, packed, evaluated}
 use Rattle.evaluation.specs.Laws.{part_of, tree_leaf, tree_one, tree_two, packed_one, packed_two, part_is_bot, part_is_lower, rest_small}
@@ -30,8 +30,8 @@ part_of_one : (t : ℕ) (c : Joined-e-i t)
 part_of_one t c =
     let a = c.args in
     elim c.if-e-i.branch [
-      | then-e-i w ↦ other_gives a.exprs.now a.places.now a.values.now a.at a.e a.w c.in-Unary.i w.if-e-i.true w.u-is
-      | else-e-i w ↦ lower_gives a.exprs.now a.places.now a.values.now a.at a.e a.w c.in-Unary.i w.if-e-i.false (w.u-is ∙ w.eval-u.ensures)
+      | then-e-i w ↦ other_gives a.exprs.now a.places.now a.values.now a.at a.e a.w c.in-Unary.i (omega arith) w.u-is
+      | else-e-i w ↦ lower_gives a.exprs.now a.places.now a.values.now a.at a.e a.w c.in-Unary.i (omega arith) (rw c.from-i.ensures at (w.u-is ∙ w.eval-u.ensures))
     ]
 
 -- so is the number of the left part,
@@ -40,9 +40,9 @@ left_of_two : (t : ℕ) (c : Joined-e-i-2 t)
 left_of_two t c =
     let a = c.args in
     elim c.if-e-i-2.branch [
-      | then-e-i-2 w ↦ other_gives a.exprs.now a.places.now a.values.now a.at a.e a.w c.in-Binary.i w.if-e-i-2.true w.u-is
+      | then-e-i-2 w ↦ other_gives a.exprs.now a.places.now a.values.now a.at a.e a.w c.in-Binary.i (omega arith) w.u-is
       | else-e-i-2 w ↦
-          lower_gives a.exprs.now a.places.now a.values.now a.at a.e a.w c.in-Binary.i w.if-e-i-2.false (w.u-is ∙ w.eval-u-else-e-i-2.ensures)
+          lower_gives a.exprs.now a.places.now a.values.now a.at a.e a.w c.in-Binary.i (omega arith) (rw c.from-i-in-Binary.ensures at (w.u-is ∙ w.eval-u-else-e-i-2.ensures))
     ]
 
 -- whose bits are below 256,
@@ -57,8 +57,8 @@ right_of_two t c =
     let a = c.args in
     let rest = c.if-e-i-2.u / REST in
     elim c.if-e-j.branch [
-      | then-e-j w ↦ other_gives a.exprs.now a.places.now a.values.now a.at a.e rest c.in-Binary.j w.if-e-j.true w.v-is
-      | else-e-j w ↦ lower_gives a.exprs.now a.places.now a.values.now a.at a.e rest c.in-Binary.j w.if-e-j.false (w.v-is ∙ w.eval-v.ensures)
+      | then-e-j w ↦ other_gives a.exprs.now a.places.now a.values.now a.at a.e rest c.in-Binary.j (omega arith) w.v-is
+      | else-e-j w ↦ lower_gives a.exprs.now a.places.now a.values.now a.at a.e rest c.in-Binary.j (omega arith) (rw c.from-j.ensures at (w.v-is ∙ w.eval-v.ensures))
     ]
 
 pub unary_code-requires : goal.unary_code-requires

@@ -2,45 +2,19 @@
 use mathlib.Core.Path.{ap}
 use Rattle.programs.specs.Statements.{exprs_of}
 use Rattle.tables.specs.Decode.{stmt_of}
-use Rattle.marks.proofs.Arms.{no_exprs}
+use Rattle.marks.proofs.Arms.{no_exprs, one_expr}
 use Rattle.marks.specs.Flow.{marks_none, marks_one, marks_two}
-use Rattle.expr_marks.specs.Naming.{names_told}
 use Rattle.expr_marks.proofs.mark_named.Goals as goal
 
 pub returns-in-Assign : goal.returns-in-Assign
 returns-in-Assign c =
     let a = c.args in
-    marks_one a.b a.n (exprs_of (stmt_of a.inits.now a.h)) _ _ _ (ap (λ h. exprs_of (stmt_of a.inits.now h)) c.in-Assign.is) c.mark_low.ensures
-
-pub returns-in-New : goal.returns-in-New
-returns-in-New c =
-    let a = c.args in
-    names_told a.b a.n a.inits.now a.h _ _ _ c.in-New.is c.mark_pairs.ensures
+    marks_one a.b a.n (exprs_of (stmt_of a.inits.now a.h)) _ _ _ (one_expr a.inits.now a.h _ c.in-Assign.is) c.mark_low-in-Assign.ensures
 
 pub returns-in-Send : goal.returns-in-Send
 returns-in-Send c =
     let a = c.args in
-    marks_two a.b a.n (exprs_of (stmt_of a.inits.now a.h)) _ _ _ _ _ (ap (λ h. exprs_of (stmt_of a.inits.now h)) c.in-Send.is) c.mark_low-in-Send.ensures c.mark_low-in-Send-2.ensures
-
-pub returns-in-Raise : goal.returns-in-Raise
-returns-in-Raise c =
-    let a = c.args in
-    marks_one a.b a.n (exprs_of (stmt_of a.inits.now a.h)) _ _ _ (ap (λ h. exprs_of (stmt_of a.inits.now h)) c.in-Raise.is) c.mark_low-in-Raise.ensures
-
-pub returns-in-Assert : goal.returns-in-Assert
-returns-in-Assert c =
-    let a = c.args in
-    marks_one a.b a.n (exprs_of (stmt_of a.inits.now a.h)) _ _ _ (ap (λ h. exprs_of (stmt_of a.inits.now h)) c.in-Assert.is) c.mark_low-in-Assert.ensures
-
-pub returns-in-If : goal.returns-in-If
-returns-in-If c =
-    let a = c.args in
-    marks_one a.b a.n (exprs_of (stmt_of a.inits.now a.h)) _ _ _ (ap (λ h. exprs_of (stmt_of a.inits.now h)) c.in-If.is) c.mark_low-in-If.ensures
-
-pub returns-in-While : goal.returns-in-While
-returns-in-While c =
-    let a = c.args in
-    marks_one a.b a.n (exprs_of (stmt_of a.inits.now a.h)) _ _ _ (ap (λ h. exprs_of (stmt_of a.inits.now h)) c.in-While.is) c.mark_low-in-While.ensures
+    marks_two a.b a.n (exprs_of (stmt_of a.inits.now a.h)) _ _ _ _ _ (ap (λ h. exprs_of (stmt_of a.inits.now h)) c.in-Send.is) c.mark_low.ensures c.mark_low-in-Send.ensures
 
 pub returns-in_default : goal.returns-in_default
 returns-in_default c =

@@ -7,7 +7,4 @@ use Rattle.expr_marks.proofs.mark_pairs.Given as goal
 
 abbrev pub invariant-loop-j : goal.invariant-loop-j
 invariant-loop-j l =
-    (l.j ≤ l.m) × (l.m ≤ 15000 - l.a) × (mark_all l.b l.n (pair_names l.inits (l.a + l.j) (l.m - l.j)) l.marks ≡ mark_all l.b l.n (pair_names l.inits l.a l.m) l.initial.marks)
-
-abbrev pub decreases-loop-j : goal.decreases-loop-j
-decreases-loop-j l = l.m - l.j
+    (l.j-end ≤ 15000 - l.a) × (mark_all l.b l.n (pair_names l.inits (l.a + l.j) (l.j-end - l.j)) l.marks ≡ mark_all l.b l.n (pair_names l.inits l.a l.j-end) l.initial.marks)

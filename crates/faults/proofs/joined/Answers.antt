@@ -1,12 +1,10 @@
 -- `faults::joined` meets its contract: the fault in front, or else the one behind. Assumes nothing.
-use mathlib.Core.Path.{sym, ◌∙◌}
-use native.Mathlib.Omega.{arith}
-use borrow.Author.Rules.{rules}
-use Rattle.faults.specs.Faults.{joined_none, joined_some}
+use Rattle.std.proofs.Common.{◌+◌, arith, ◌∙◌}
+use Rattle.faults.specs.Lines.{number_of, joined_line, number_or}
 use Rattle.faults.proofs.joined.Goals as goal
 
-pub returns-then-a-eq0 : goal.returns-then-a-eq0
-returns-then-a-eq0 c = (rw c.if-a-eq0.true (c.onward.ensures.0 ∙ sym (joined_none _ _)), search rules)
+pub returns-clause-line : goal.returns-clause-line
+returns-clause-line c = λ x y ea eb. c.or.ensures ∙ rw (ea, c.onward.ensures.line y eb) (joined_line x c.args.n y)
 
-pub returns-else-a-eq0 : goal.returns-else-a-eq0
-returns-else-a-eq0 c = (sym (joined_some _ _ _ (omega (arith, c.if-a-eq0.false))), search rules)
+pub returns-clause-next : goal.returns-clause-next
+returns-clause-next c = λ h. rw c.or.ensures (number_or c.args.a c.onward.result (c.args.n + number_of c.args.b) (omega arith) c.onward.ensures.bound)

@@ -1,12 +1,10 @@
 -- `faults::onward` meets its contract: no fault, or one that has n lines before it. Assumes nothing.
-use mathlib.Core.Path.{sym}
-use native.Mathlib.Omega.{arith}
-use borrow.Author.Rules.{rules}
-use Rattle.faults.specs.Faults.{onward_none, onward_some}
+use Rattle.std.proofs.Common.{◌≡◌, ◌+◌, ◌∙◌, rules}
+use Rattle.std.specs.Option.{option_map}
+use Rattle.faults.specs.Lines.{onward_line}
 use Rattle.faults.proofs.onward.Goals as goal
 
-pub returns-then-b-eq0 : goal.returns-then-b-eq0
-returns-then-b-eq0 c = (rw c.if-b-eq0.true (sym (onward_none _)), search rules)
-
-pub returns-else-b-eq0 : goal.returns-else-b-eq0
-returns-else-b-eq0 c = (sym (onward_some _ _ (omega (arith, c.if-b-eq0.false))), search rules)
+pub returns-clause-line : goal.returns-clause-line
+returns-clause-line c = λ k e.
+    let h : c.map.result ≡ option_map (λ b. c.args.n + b) c.args.b = search rules in
+    h ∙ rw e (onward_line c.args.n k)

@@ -4,25 +4,25 @@ use Rattle.forms.specs.Trying.{turn_none, turn_all, begin_room, begin_found, beg
 use Rattle.forms.specs.Recognised.{forms_sound}
 use Rattle.forms.proofs.first_form.Goals as goal
 
-pub loop-r-init : goal.loop-r-init
-loop-r-init c = let a = c.args in turn_none forms a.s.now a.a a.e
+pub loop-row-init : goal.loop-row-init
+loop-row-init c = let a = c.args in turn_none forms a.s.now a.a a.e
 
-pub scan-f-requires : goal.scan-f-requires
-scan-f-requires c =
+pub scan-requires : goal.scan-requires
+scan-requires c =
     let a = c.args in
-    record { room = begin_room forms a.t.now a.s.now a.a a.e c.loop-r.r c.requires.written c.loop-r-test.true forms_sound; inside = c.requires.inside; known = c.requires.known }
+    record { room = begin_room forms a.t.now a.s.now a.a a.e c.loop-row.row c.requires.written c.loop-row-test.true forms_sound; inside = c.requires.inside; known = c.requires.known }
 
-pub returns-then-f : goal.returns-then-f
-returns-then-f c =
+pub returns-in-Some : goal.returns-in-Some
+returns-in-Some c =
     let a = c.args in
-    begin_found forms a.t.now a.s.now a.a a.e c.loop-r.r c.requires.written c.loop-r-test.true c.scan-f.result c.scan-f.ensures c.loop-r.invariant c.if-f.true
+    (begin_found forms a.t.now a.s.now a.a a.e c.loop-row.row c.requires.written c.loop-row-test.true c.scan.result c.scan.ensures c.loop-row.invariant c.in-Some.at c.in-Some.is, c.loop-row-test.true)
 
-pub loop-r-preserved : goal.loop-r-preserved
-loop-r-preserved c =
+pub loop-row-preserved : goal.loop-row-preserved
+loop-row-preserved c =
     let a = c.args in
-    begin_more forms a.t.now a.s.now a.a a.e c.loop-r.r c.requires.written c.loop-r-test.true c.scan-f.result c.scan-f.ensures c.loop-r.invariant c.if-f.false
+    begin_more forms a.t.now a.s.now a.a a.e c.loop-row.row c.requires.written c.loop-row-test.true c.scan.result c.scan.ensures c.loop-row.invariant c.in_default.is
 
 pub returns : goal.returns
 returns c =
     let a = c.args in
-    turn_all forms a.s.now a.a a.e c.loop-r.r c.loop-r.invariant c.loop-r-test.false
+    turn_all forms a.s.now a.a a.e c.loop-row.row c.loop-row.invariant c.loop-row-test.false

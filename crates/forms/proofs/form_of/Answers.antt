@@ -1,7 +1,7 @@
 -- `forms::form_of` meets its contract: the first of the forms is the one that is told. Assumes nothing.
 use mathlib.Core.Path.{refl}
 use Rattle.forms.specs.Trying.{known_first}
-use Rattle.forms.specs.Recognised.{recognised}
+use Rattle.forms.specs.Recognised.{recognised_as}
 use Rattle.forms.proofs.form_of.Goals as goal
 
 pub until-k-requires : goal.until-k-requires
@@ -17,4 +17,4 @@ first_form-requires c =
 pub returns : goal.returns
 returns c =
     let a = c.args in
-    recognised a.s.now a.a a.e _ c.requires c.first_form.ensures
+    recognised_as a.s.now a.a a.e c.first_form.result c.requires c.first_form.ensures

@@ -3,39 +3,41 @@ use mathlib.Core.Path.{ap}
 use mathlib.Core.Bool.{not}
 use native.Mathlib.Omega.{arith}
 use borrow.Author.Rules.{rules}
+use Rattle.std.proofs.Common.{length, ◌-◌, length-take-le}
+use Rattle.looping.specs.Looping.{left_first}
 use Rattle.stepping.specs.Stepping.{passed}
 use Rattle.grouping.specs.Grouping.{group_unaccepted, group_long, group_short, group_none, group_22, group_0}
 use Rattle.grouping.proofs.regroup_laid.Goals as goal
 
 pub returns-then-not-admitted : goal.returns-then-not-admitted
 returns-then-not-admitted c =
-    group_unaccepted c.args.program _ _ _ c.requires c.admitted.ensures (ap not c.if-not-admitted.true)
+    group_unaccepted c.args.program.now _ _ _ c.requires c.admitted.ensures (ap not c.if-not-admitted.true)
 
 pub returns-then-n-gt-CHOICES : goal.returns-then-n-gt-CHOICES
 returns-then-n-gt-CHOICES c =
-    group_long c.args.program _ _ _ c.requires c.admitted.ensures (ap not c.if-not-admitted.false) c.if-n-gt-CHOICES.true
+    group_long c.args.program.now _ _ _ c.requires c.admitted.ensures (ap not c.if-not-admitted.false) c.if-n-gt-CHOICES.true
 
 pub returns-then-out-n : goal.returns-then-out-n
 returns-then-out-n c =
-    group_short c.args.program _ _ _ c.requires c.admitted.ensures (ap not c.if-not-admitted.false) c.if-n-gt-CHOICES.false c.if-out-n.true
+    group_short c.args.program.now _ _ _ c.requires c.admitted.ensures (ap not c.if-not-admitted.false) c.if-n-gt-CHOICES.false c.if-out-n.true
 
 pub returns-then-n-eq0 : goal.returns-then-n-eq0
 returns-then-n-eq0 c =
-    group_none c.args.program _ _ _ c.requires c.admitted.ensures (ap not c.if-not-admitted.false) c.if-n-eq0.true
+    group_none c.args.program.now _ _ _ c.requires c.admitted.ensures (ap not c.if-not-admitted.false) c.if-n-eq0.true
 
 pub run_accepted-end-requires : goal.run_accepted-end-requires
 run_accepted-end-requires c =
     record {
       laid = c.requires;
       one = passed _ c.admitted.ensures (ap not c.if-not-admitted.false);
-      inside = search rules;
-      few = omega (arith, c.if-n-gt-CHOICES.false);
+      inside = omega arith;
+      few = omega (arith, c.if-n-gt-CHOICES.false, length-take-le (length c.args.choices.now - 1) c.args.choices.now (omega arith));
       room = search rules;
     }
 
 pub returns-then-end-n : goal.returns-then-end-n
 returns-then-end-n c =
-    group_22 c.args.program _ _ _ c.requires c.admitted.ensures (ap not c.if-not-admitted.false) c.if-n-eq0.false c.if-n-gt-CHOICES.false c.if-out-n.false c.run_accepted-end.ensures c.if-end-n.true
+    group_22 c.args.program.now _ _ _ c.requires c.admitted.ensures (ap not c.if-not-admitted.false) c.if-n-eq0.false c.if-n-gt-CHOICES.false c.if-out-n.false (left_first c.run_accepted-end.ensures) c.if-end-n.true
 
 pub place-requires : goal.place-requires
 place-requires c =
@@ -43,4 +45,4 @@ place-requires c =
 
 pub returns : goal.returns
 returns c =
-    group_0 c.args.program _ _ _ c.requires c.admitted.ensures (ap not c.if-not-admitted.false) c.if-n-eq0.false c.if-n-gt-CHOICES.false c.if-out-n.false c.run_accepted-end.ensures c.if-end-n.false c.place.ensures
+    group_0 c.args.program.now _ _ _ c.requires c.admitted.ensures (ap not c.if-not-admitted.false) c.if-n-eq0.false c.if-n-gt-CHOICES.false c.if-out-n.false (left_first c.run_accepted-end.ensures) c.if-end-n.false c.place.ensures

@@ -7,7 +7,4 @@ use Rattle.index.specs.Saying.{stored_all}
 use Rattle.index.proofs.store_moves.Given as goal
 
 abbrev pub invariant-loop-i : goal.invariant-loop-i
-invariant-loop-i l = (l.i ≤ l.m) × (l.m ≤ 4096 - l.a) × (l.says ≡ stored_all l.j (table (move_in l.moves) (l.a + l.i) (l.m - l.i)) l.initial.says)
-
-abbrev pub decreases-loop-i : goal.decreases-loop-i
-decreases-loop-i l = l.i
+invariant-loop-i l = (l.m ≤ 4096 - l.a) × (l.says ≡ stored_all l.j (table (move_in l.moves) (l.a + l.i) (l.m - l.i)) l.initial.says)

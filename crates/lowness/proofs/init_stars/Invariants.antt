@@ -5,7 +5,4 @@ use Rattle.lowness.specs.Stars.{pair_stars}
 use Rattle.lowness.proofs.init_stars.Given as goal
 
 abbrev pub invariant-loop-j : goal.invariant-loop-j
-invariant-loop-j l = (l.j ≤ l.m) × (l.m ≤ 15000 - l.a) × (l.sum ≤ 9) × (l.sum ≡ pair_stars l.counts l.inits (l.a + l.j) (l.m - l.j))
-
-abbrev pub decreases-loop-j : goal.decreases-loop-j
-decreases-loop-j l = l.j
+invariant-loop-j l = (l.m ≤ 15000 - l.a) × (l.sum ≤ 9) × (l.sum ≡ pair_stars l.counts l.inits (l.a + l.j) (l.m - l.j))

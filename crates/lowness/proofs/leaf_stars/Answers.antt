@@ -1,36 +1,17 @@
--- `lowness::leaf_stars` meets its contract: each leaf has its stars.
-use mathlib.Core.Path.{sym, ap}
+-- `lowness::leaf_stars` meets its contract: a star is one, any other leaf is none.
+use mir.Val.{bool_byte}
+use Rattle.std.proofs.Common.{◌≡◌, refl, sym, ap, ◌∙◌, Bool, true, false, rules}
+use Rattle.programs.specs.declared.Leaf.{Leaf}
+use Rattle.programs.specs.declared.Leaf.TheVariants.{Star}
 use Rattle.programs.specs.Trees.{stars, tip}
+use Rattle.lowness.specs.Trees.{leaf_none}
 use Rattle.lowness.proofs.leaf_stars.Goals as goal
 
-pub returns-in-Bot : goal.returns-in-Bot
+-- the byte of a test that says whether it is a star
+star_byte : (l : Leaf) (b : Bool) → (b ≡ true → l ≡ Star) → (b ≡ false → l ≡ Star → ⊥) → bool_byte b ≡ stars (tip l)
 unfolding stars
-returns-in-Bot c = sym (ap (λ l. stars (tip l)) c.in-Bot.is)
+star_byte l true h k = sym (ap (λ l. stars (tip l)) (h refl))
+star_byte l false h k = leaf_none l (k refl)
 
-pub returns-in-Int : goal.returns-in-Int
-unfolding stars
-returns-in-Int c = sym (ap (λ l. stars (tip l)) c.in-Int.is)
-
-pub returns-in-Bool : goal.returns-in-Bool
-unfolding stars
-returns-in-Bool c = sym (ap (λ l. stars (tip l)) c.in-Bool.is)
-
-pub returns-in-Var : goal.returns-in-Var
-unfolding stars
-returns-in-Var c = sym (ap (λ l. stars (tip l)) c.in-Var.is)
-
-pub returns-in-This : goal.returns-in-This
-unfolding stars
-returns-in-This c = sym (ap (λ l. stars (tip l)) c.in-This.is)
-
-pub returns-in-Msg : goal.returns-in-Msg
-unfolding stars
-returns-in-Msg c = sym (ap (λ l. stars (tip l)) c.in-Msg.is)
-
-pub returns-in-Arg : goal.returns-in-Arg
-unfolding stars
-returns-in-Arg c = sym (ap (λ l. stars (tip l)) c.in-Arg.is)
-
-pub returns-in-Star : goal.returns-in-Star
-unfolding stars
-returns-in-Star c = sym (ap (λ l. stars (tip l)) c.in-Star.is)
+pub returns : goal.returns
+returns c = c.from.ensures ∙ star_byte c.args.l c.eq.result (λ h. search rules) (λ h k. search rules)

@@ -3,13 +3,13 @@ use mathlib.Core.Path.{ap}
 use Rattle.programs.specs.Statements.{exprs_of}
 use Rattle.tables.specs.Decode.{stmt_of}
 use Rattle.lowness.specs.Stars.{counted, stars_none, stars_one, stars_two, stars_told}
-use Rattle.marks.proofs.Arms.{no_exprs}
+use Rattle.marks.proofs.Arms.{no_exprs, one_expr}
 use Rattle.lowness.proofs.stmt_stars.Goals as goal
 
 pub returns-in-Assign : goal.returns-in-Assign
 returns-in-Assign c =
     let a = c.args in
-    stars_one a.counts.now c.requires (exprs_of (stmt_of a.inits.now a.h)) _ _ (ap (λ h. exprs_of (stmt_of a.inits.now h)) c.in-Assign.is) c.stars_at.ensures.0
+    stars_one a.counts.now c.requires (exprs_of (stmt_of a.inits.now a.h)) _ _ (one_expr a.inits.now a.h _ c.in-Assign.is) c.stars_at-in-Assign.ensures.0
 
 pub returns-in-New : goal.returns-in-New
 returns-in-New c =
@@ -19,27 +19,7 @@ returns-in-New c =
 pub returns-in-Send : goal.returns-in-Send
 returns-in-Send c =
     let a = c.args in
-    stars_two a.counts.now c.requires (exprs_of (stmt_of a.inits.now a.h)) _ _ _ _ _ (ap (λ h. exprs_of (stmt_of a.inits.now h)) c.in-Send.is) c.stars_at-in-Send.ensures.0 c.stars_at-in-Send-2.ensures.0 c.add_few.ensures
-
-pub returns-in-Raise : goal.returns-in-Raise
-returns-in-Raise c =
-    let a = c.args in
-    stars_one a.counts.now c.requires (exprs_of (stmt_of a.inits.now a.h)) _ _ (ap (λ h. exprs_of (stmt_of a.inits.now h)) c.in-Raise.is) c.stars_at-in-Raise.ensures.0
-
-pub returns-in-Assert : goal.returns-in-Assert
-returns-in-Assert c =
-    let a = c.args in
-    stars_one a.counts.now c.requires (exprs_of (stmt_of a.inits.now a.h)) _ _ (ap (λ h. exprs_of (stmt_of a.inits.now h)) c.in-Assert.is) c.stars_at-in-Assert.ensures.0
-
-pub returns-in-If : goal.returns-in-If
-returns-in-If c =
-    let a = c.args in
-    stars_one a.counts.now c.requires (exprs_of (stmt_of a.inits.now a.h)) _ _ (ap (λ h. exprs_of (stmt_of a.inits.now h)) c.in-If.is) c.stars_at-in-If.ensures.0
-
-pub returns-in-While : goal.returns-in-While
-returns-in-While c =
-    let a = c.args in
-    stars_one a.counts.now c.requires (exprs_of (stmt_of a.inits.now a.h)) _ _ (ap (λ h. exprs_of (stmt_of a.inits.now h)) c.in-While.is) c.stars_at-in-While.ensures.0
+    stars_two a.counts.now c.requires (exprs_of (stmt_of a.inits.now a.h)) _ _ _ _ _ (ap (λ h. exprs_of (stmt_of a.inits.now h)) c.in-Send.is) c.stars_at.ensures.0 c.stars_at-in-Send.ensures.0 c.add_few.ensures
 
 pub returns-in_default : goal.returns-in_default
 returns-in_default c =

@@ -1,22 +1,22 @@
 -- `marks::flow` meets its contract: the turns that are left give what all turns give.
 use mathlib.Core.Path.{refl}
-use Prim.Native.Nat.{◌*◌}
-use Rattle.marks.specs.Inner.{parts_in}
-use Rattle.marks.specs.Flow.{flowed_turn, flowed_done}
 use native.Mathlib.Omega.{arith}
+use Rattle.marks.specs.Flow.{passed_marked, passed_unmarked, flowed_turn, flowed_done}
 use Rattle.marks.proofs.flow.Goals as goal
+use Rattle.marks.proofs.flow.Goals.{then-marks-b-ne0, else-marks-b-ne0}
 
 pub loop-s-init : goal.loop-s-init
-loop-s-init c = (omega arith, refl)
+loop-s-init g c kids told = refl
 
 pub loop-s-preserved : goal.loop-s-preserved
-loop-s-preserved c =
+loop-s-preserved g c kids told =
     let l = c.loop-s in
-    let a = c.args in
-    (omega (arith, l.invariant.0), flowed_turn (parts_in a.stmts.now) (a.k * 1025) l.s l.marks _ _ c.loop-s-test.true c.pass.ensures l.invariant.1)
+    flowed_turn kids c.args.b l.s l.marks _ _ (omega arith) (elim c.if-marks-b-ne0.branch [
+      | then-marks-b-ne0 w ↦ rw w.marks-is (passed_marked kids c.args.b l.s _ l.marks _ w.if-marks-b-ne0.true (told l.s w.inner.result w.inner.ensures) w.mark_inner.ensures)
+      | else-marks-b-ne0 w ↦ rw w.marks-is (passed_unmarked kids c.args.b l.s l.marks w.if-marks-b-ne0.false)
+    ]) (l.invariant kids told)
 
 pub returns : goal.returns
-returns c =
+returns g c kids told =
     let l = c.loop-s in
-    let a = c.args in
-    flowed_done (parts_in a.stmts.now) (a.k * 1025) l.s l.marks _ c.loop-s-test.false l.invariant.1
+    flowed_done kids c.args.b l.s l.marks _ (omega arith) (l.invariant kids told)

@@ -1,35 +1,35 @@
--- `marks::height_over` meets its contract: nothing, one or two numbers in it, by the laws of specs/Tall.antt.
-use mathlib.Core.Path.{◌≡◌}
-use Prim.Native.Nat.{ℕ, max}
+-- `marks::height_over` meets its contract: one number in it, or two, by the laws of specs/Tall.antt.
+use mathlib.Core.Path.{◌∙◌}
 use native.Mathlib.Omega.{arith}
-use Rattle.marks.specs.Tall.{low_fits, over_none, over_one, over_two}
+use Rattle.marks.specs.Tall.{low_part, low_fits, over_one, over_two}
 use Rattle.marks.proofs.height_over.Goals as goal
-
--- the greater of two, given as others
-of_two : {r x y u v : ℕ} → r ≡ max x y → x ≡ u → y ≡ v → r ≡ max u v
-of_two h e f = rw (← e, ← f) h
 
 pub overflow_add-result : goal.overflow_add-result
 overflow_add-result c =
     let a = c.args in
-    omega (arith, c.lower_height.ensures, low_fits a.heights.now a.n c.requires.0 c.requires.1.1 c.in-One.a, c.requires.1.0)
+    omega (arith, c.item_or.ensures, low_part 1 a.heights.now a.n c.in-One.a (omega arith), low_fits a.heights.now a.n c.requires.0 c.requires.1.1 c.in-One.a)
 
 pub overflow_add-result-in-Two : goal.overflow_add-result-in-Two
 overflow_add-result-in-Two c =
     let a = c.args in
-    omega (arith, c.higher.ensures, c.lower_height-in-Two-2.ensures, c.lower_height-in-Two.ensures, low_fits a.heights.now a.n c.requires.0 c.requires.1.1 c.in-Two.a, low_fits a.heights.now a.n c.requires.0 c.requires.1.1 c.in-Two.b, c.requires.1.0)
-
-pub returns-in-Nothing : goal.returns-in-Nothing
-returns-in-Nothing c =
-    let a = c.args in
-    over_none a.heights.now a.n c.requires.0 c.requires.1.1 a.i c.in-Nothing.is
+    omega (
+      arith,
+      c.max.ensures,
+      c.item_or-in-Two.ensures,
+      c.item_or-in-Two-2.ensures,
+      low_part 1 a.heights.now a.n c.in-Two.a (omega arith),
+      low_part 1 a.heights.now a.n c.in-Two.b (omega arith),
+      low_fits a.heights.now a.n c.requires.0 c.requires.1.1 c.in-Two.a,
+      low_fits a.heights.now a.n c.requires.0 c.requires.1.1 c.in-Two.b,
+    )
 
 pub returns-in-One : goal.returns-in-One
 returns-in-One c =
     let a = c.args in
-    over_one a.heights.now a.n c.requires.0 c.requires.1.1 a.i c.in-One.a _ c.in-One.is c.lower_height.ensures
+    over_one a.heights.now a.n c.requires.0 c.requires.1.1 a.i c.in-One.a _ c.in-One.is (c.item_or.ensures ∙ low_part 1 a.heights.now a.n c.in-One.a (omega arith))
 
 pub returns-in-Two : goal.returns-in-Two
 returns-in-Two c =
     let a = c.args in
-    over_two a.heights.now a.n c.requires.0 c.requires.1.1 a.i c.in-Two.a c.in-Two.b _ c.in-Two.is (of_two c.higher.ensures c.lower_height-in-Two.ensures c.lower_height-in-Two-2.ensures)
+    over_two a.heights.now a.n c.requires.0 c.requires.1.1 a.i c.in-Two.a c.in-Two.b _ c.in-Two.is
+    (omega (arith, c.max.ensures, c.item_or-in-Two.ensures, c.item_or-in-Two-2.ensures, low_part 1 a.heights.now a.n c.in-Two.a (omega arith), low_part 1 a.heights.now a.n c.in-Two.b (omega arith)))

@@ -1,16 +1,14 @@
 -- `marks::mark` meets its contract: its cases are those of specs/Kinds.antt.
-use native.Mathlib.Omega.{arith}
-use Rattle.marks.specs.Kinds.{marked_in, marked_past, marked_zero, marked_high}
+use Rattle.std.proofs.Common.{sym, ◌∙◌}
+use Rattle.marks.specs.Kinds.{marked_there, marked_behind, marked_absent}
 use Rattle.marks.proofs.mark.Goals as goal
+use Rattle.marks.proofs.mark.Goals.{else-there-via-then-there+else-j-n, else-there-via-else-there}
 
-pub returns-then-i-eq0 : goal.returns-then-i-eq0
-returns-then-i-eq0 c = marked_zero _ _ _ _ c.if-i-eq0.true
+pub returns-then-j-n : goal.returns-then-j-n
+returns-then-j-n c = marked_there _ _ _ _ c.from-i.ensures c.from-j.ensures (sym c.there.ensures ∙ c.if-there.true) c.if-j-n.true
 
-pub returns-then-i-gt-KINDS : goal.returns-then-i-gt-KINDS
-returns-then-i-gt-KINDS c = marked_high _ _ _ _ c.if-i-gt-KINDS.true
-
-pub returns-then-n-j : goal.returns-then-n-j
-returns-then-n-j c = marked_past _ _ _ _ (omega (arith, c.if-i-eq0.false)) c.if-i-gt-KINDS.false c.if-n-j.true
-
-pub returns : goal.returns
-returns c = marked_in _ _ _ _ (omega (arith, c.if-i-eq0.false)) c.if-i-gt-KINDS.false c.if-n-j.false
+pub returns-else-there : goal.returns-else-there
+returns-else-there c = elim c.else-there.branch [
+  | else-there-via-then-there+else-j-n w ↦ marked_behind _ _ _ _ c.from-j.ensures w.if-j-n.false
+  | else-there-via-else-there w ↦ marked_absent _ _ _ _ c.from-i.ensures (sym c.there.ensures ∙ w.if-there.false)
+]

@@ -1,23 +1,21 @@
--- `marks::mark_bodies` meets its contract: before a turn the bodies of the actions behind i are marked.
+-- `marks::mark_bodies` meets its contract: before a turn the bodies of the actions behind a are marked.
 use Rattle.marks.specs.Kinds.{bodies_none, bodies_more, bodies_done}
 use native.Mathlib.Omega.{arith}
 use Rattle.marks.proofs.mark_bodies.Goals as goal
 
-pub loop-i-init : goal.loop-i-init
-loop-i-init c =
-    let a = c.args in
-    (omega arith, omega (arith, c.action_count-m.ensures), bodies_none a.kinds.now a.bodies.now a.marks.now a.n c.action_count-m.result)
+pub loop-a-init : goal.loop-a-init
+loop-a-init c =
+    let p = c.args.program.now in
+    bodies_none p.action_of p.action_body c.args.marks.now c.args.n c.action_count-a.result
 
-pub loop-i-preserved : goal.loop-i-preserved
-loop-i-preserved c =
-    let l = c.loop-i in
-    let m = c.action_count-m.result in
-    let a = c.args in
-    (omega (arith, l.invariant.0), l.invariant.1, bodies_more a.kinds.now a.bodies.now a.marks.now a.n m l.i l.marks _ c.loop-i-test.true l.invariant.0 l.invariant.2 c.mark.ensures)
+pub loop-a-preserved : goal.loop-a-preserved
+loop-a-preserved c =
+    let l = c.loop-a in
+    let p = c.args.program.now in
+    bodies_more p.action_of p.action_body c.args.marks.now c.args.n c.action_count-a.result l.a l.marks _ (omega arith) l.auto.a l.invariant c.mark.ensures
 
 pub returns : goal.returns
 returns c =
-    let l = c.loop-i in
-    let m = c.action_count-m in
-    let a = c.args in
-    bodies_done a.kinds.now a.bodies.now a.marks.now a.n m.result l.i l.marks m.ensures c.loop-i-test.false l.invariant.2
+    let l = c.loop-a in
+    let p = c.args.program.now in
+    bodies_done p.action_of p.action_body c.args.marks.now c.args.n c.action_count-a.result l.a l.marks c.action_count-a.ensures (omega arith) l.invariant

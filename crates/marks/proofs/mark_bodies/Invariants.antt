@@ -1,13 +1,10 @@
--- `marks::mark_bodies` meets its contract: before a turn the bodies of the actions behind i are marked.
+-- `marks::mark_bodies` meets its contract: before a turn the bodies of the actions behind a are marked.
 use mathlib.Core.Path.{◌≡◌}
-use Prim.Native.Nat.{◌+◌, ◌-◌, ◌≤◌}
+use Prim.Native.Nat.{◌+◌, ◌-◌}
 use Rattle.rows.specs.Seek.{table}
 use Rattle.tables.specs.Decode.{action_in}
 use Rattle.marks.specs.Kinds.{marked_bodies}
 use Rattle.marks.proofs.mark_bodies.Given as goal
 
-abbrev pub invariant-loop-i : goal.invariant-loop-i
-invariant-loop-i l = (l.i ≤ l.m) × (l.m ≤ 64) × (l.marks ≡ marked_bodies l.n (table (action_in l.kinds l.bodies) (1 + l.i) (l.m - l.i)) l.initial.marks)
-
-abbrev pub decreases-loop-i : goal.decreases-loop-i
-decreases-loop-i l = l.i
+abbrev pub invariant-loop-a : goal.invariant-loop-a
+invariant-loop-a l = l.marks ≡ marked_bodies l.n (table (action_in l.program.action_of l.program.action_body) (1 + l.a) (l.initial.a - l.a)) l.initial.marks

@@ -5,7 +5,7 @@ use Rattle.putting.specs.Words.{word_kept}
 use Rattle.operands.proofs.operand.Goals as goal
 
 pub returns-then-there : goal.returns-then-there
-returns-then-there c = rw c.if-there.true (c.word_of.ensures ∙ ap word_of c.number_at.ensures ∙ word_kept _)
+returns-then-there c = rw c.if-there.true (c.short.ensures ∙ ap word_of c.number_at.ensures ∙ word_kept _)
 
 pub returns-else-there : goal.returns-else-there
 returns-else-there c = rw c.if-there.false

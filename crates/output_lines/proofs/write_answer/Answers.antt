@@ -3,8 +3,8 @@ use Rattle.output_lines.proofs.write_answer.Goals as goal
 
 pub write_last-requires : goal.write_last-requires
 write_last-requires c =
-    rw c.number-number.ensures c.requires
+    rw (c.from-number.ensures, c.number.ensures) c.requires
 
 pub returns : goal.returns
 returns c =
-    rw c.number-number.ensures at c.write_last.ensures
+    rw (c.from-number.ensures, c.number.ensures) at c.write_last.ensures

@@ -4,7 +4,7 @@ use Rattle.texts.specs.Bytes.{LF}
 use Rattle.outputs.specs.Lines.{field}
 use Rattle.writing.specs.Wrote.{Room, Wrote, room_first, room_second, wrote_both}
 use Rattle.output_lines.proofs.write_ending.Goals as goal
-use Rattle.output_lines.proofs.write_ending.Goals.{After-number-number}
+use Rattle.output_lines.proofs.write_ending.Goals.{After-from-number}
 
 -- what is written behind the steps,
 abbrev behind_steps : ℕ → List ℕ
@@ -15,8 +15,8 @@ abbrev behind_answer : ℕ → ℕ → List ℕ
 behind_answer steps live = field " steps=" steps ++ behind_steps live
 
 -- the room, with the number that was worked out,
-room : (c : After-number-number) → Room (field "end=" c.number-number.result ++ behind_answer c.args.steps c.args.live) c.args.at c.args.out.now
-room c = rw c.number-number.ensures c.requires
+room : (c : After-from-number) → Room (field "end=" c.from-number.result ++ behind_answer c.args.steps c.args.live) c.args.at c.args.out.now
+room c = rw (c.from-number.ensures, c.number.ensures) c.requires
 
 -- and behind the answer
 room_behind : (number steps live : ℕ) {at : ℕ} {old : List ℕ} → Room (field "end=" number ++ behind_answer steps live) at old → {second : ℕ} {new : List ℕ} → Wrote (field "end=" number) at old second new → Room (behind_answer steps live) second new
@@ -24,20 +24,20 @@ room_behind number steps live whole wrote = room_second (field "end=" number) (b
 
 pub write_field-second-requires : goal.write_field-second-requires
 write_field-second-requires c =
-    room_first (field "end=" c.number-number.result) (behind_answer c.args.steps c.args.live) (room (goal.at.write_field-second-requires c).After-number-number)
+    room_first (field "end=" c.from-number.result) (behind_answer c.args.steps c.args.live) (room (goal.at.write_field-second-requires c).After-from-number)
 
 pub write_field-third-requires : goal.write_field-third-requires
 write_field-third-requires c =
-    room_first (field " steps=" c.args.steps) (behind_steps c.args.live) (room_behind c.number-number.result c.args.steps c.args.live (room (goal.at.write_field-third-requires c).After-number-number) c.write_field-second.ensures)
+    room_first (field " steps=" c.args.steps) (behind_steps c.args.live) (room_behind c.from-number.result c.args.steps c.args.live (room (goal.at.write_field-third-requires c).After-from-number) c.write_field-second.ensures)
 
 pub write_last-requires : goal.write_last-requires
 write_last-requires c =
-    room_second (field " steps=" c.args.steps) (behind_steps c.args.live) (room_behind c.number-number.result c.args.steps c.args.live (room (goal.at.write_last-requires c).After-number-number) c.write_field-second.ensures) c.write_field-third.ensures
+    room_second (field " steps=" c.args.steps) (behind_steps c.args.live) (room_behind c.from-number.result c.args.steps c.args.live (room (goal.at.write_last-requires c).After-from-number) c.write_field-second.ensures) c.write_field-third.ensures
 
 pub returns : goal.returns
 returns c =
     let steps = c.args.steps in
     let live = c.args.live in
-    let whole = room (goal.at.returns c).After-number-number in
-    let rest = wrote_both (field " steps=" steps) (behind_steps live) (room_behind c.number-number.result steps live whole c.write_field-second.ensures) c.write_field-third.ensures c.write_last.ensures in
-    rw c.number-number.ensures at (wrote_both (field "end=" c.number-number.result) (behind_answer steps live) whole c.write_field-second.ensures rest)
+    let whole = room (goal.at.returns c).After-from-number in
+    let rest = wrote_both (field " steps=" steps) (behind_steps live) (room_behind c.from-number.result steps live whole c.write_field-second.ensures) c.write_field-third.ensures c.write_last.ensures in
+    rw (c.from-number.ensures, c.number.ensures) at (wrote_both (field "end=" c.from-number.result) (behind_answer steps live) whole c.write_field-second.ensures rest)

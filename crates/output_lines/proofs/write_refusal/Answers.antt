@@ -4,21 +4,21 @@ use Rattle.texts.specs.Bytes.{LF}
 use Rattle.outputs.specs.Lines.{field}
 use Rattle.writing.specs.Wrote.{Room, room_first, room_second, wrote_both}
 use Rattle.output_lines.proofs.write_refusal.Goals as goal
-use Rattle.output_lines.proofs.write_refusal.Goals.{After-number-number}
+use Rattle.output_lines.proofs.write_refusal.Goals.{After-from-number}
 
 -- the room, with the number that was worked out
-room : (c : After-number-number) → Room (field "end=" c.number-number.result ++ (field " line=" c.args.line ++ LF ∷ [])) c.args.at c.args.out.now
-room c = rw c.number-number.ensures c.requires
+room : (c : After-from-number) → Room (field "end=" c.from-number.result ++ (field " line=" c.args.line ++ LF ∷ [])) c.args.at c.args.out.now
+room c = rw (c.from-number.ensures, c.number.ensures) c.requires
 
 pub write_field-second-requires : goal.write_field-second-requires
 write_field-second-requires c =
-    room_first (field "end=" c.number-number.result) (field " line=" c.args.line ++ LF ∷ []) (room (goal.at.write_field-second-requires c).After-number-number)
+    room_first (field "end=" c.from-number.result) (field " line=" c.args.line ++ LF ∷ []) (room (goal.at.write_field-second-requires c).After-from-number)
 
 pub write_last-requires : goal.write_last-requires
 write_last-requires c =
-    room_second (field "end=" c.number-number.result) (field " line=" c.args.line ++ LF ∷ []) (room (goal.at.write_last-requires c).After-number-number) c.write_field-second.ensures
+    room_second (field "end=" c.from-number.result) (field " line=" c.args.line ++ LF ∷ []) (room (goal.at.write_last-requires c).After-from-number) c.write_field-second.ensures
 
 pub returns : goal.returns
 returns c =
-    rw c.number-number.ensures at
-    (wrote_both (field "end=" c.number-number.result) (field " line=" c.args.line ++ LF ∷ []) (room (goal.at.returns c).After-number-number) c.write_field-second.ensures c.write_last.ensures)
+    rw (c.from-number.ensures, c.number.ensures) at
+    (wrote_both (field "end=" c.from-number.result) (field " line=" c.args.line ++ LF ∷ []) (room (goal.at.returns c).After-from-number) c.write_field-second.ensures c.write_last.ensures)

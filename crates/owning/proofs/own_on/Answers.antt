@@ -1,4 +1,5 @@
 -- `owning::own_on` meets its contract, a case for each head.
+use Rattle.std.proofs.Common.{⊎_elim}
 use Rattle.owning.specs.Owning.{own_row, own_part, own_deep, own_assign, own_assert, own_if, own_while, own_return, own_raise, row_left, pending_left, alone_left, owned_at}
 use Rattle.owning.proofs.own_on.Goals as goal
 
@@ -37,40 +38,37 @@ if_on-requires c = own_if _ _ _ (rw c.in-If.is at c.requires)
 pub while_on-requires : goal.while_on-requires
 while_on-requires c = own_while _ _ (rw c.in-While.is at c.requires)
 
-pub returns-in-Skip : goal.returns-in-Skip
-returns-in-Skip c = owned_at c.in-Skip.is _ _ _ _ _ (λ a. row_left a _ _ _ (c.skip_on.ensures (own_part a) c.args.w))
+pub returns-in-Skip-clause-owned : goal.returns-in-Skip-clause-owned
+returns-in-Skip-clause-owned c = owned_at c.in-Skip.is _ _ _ _ _ (λ a. row_left a _ _ _ (c.skip_on.ensures (own_part a) c.args.w))
 
-pub returns-in-Assign : goal.returns-in-Assign
-returns-in-Assign c = owned_at c.in-Assign.is _ _ _ _ _ (λ a. c.assign_on.ensures (own_assign _ _ a))
+pub returns-in-Assign-clause-owned : goal.returns-in-Assign-clause-owned
+returns-in-Assign-clause-owned c = owned_at c.in-Assign.is _ _ _ _ _ (λ a. c.assign_on.ensures (own_assign _ _ a))
 
-pub returns-in-New : goal.returns-in-New
-returns-in-New c = owned_at c.in-New.is _ _ _ _ _ (λ a. alone_left a)
+pub returns-in-New-clause-owned : goal.returns-in-New-clause-owned
+returns-in-New-clause-owned c = ⊎_elim
+    (λ e. owned_at e.4 _ _ _ _ _ (λ a. alone_left a))
+    (λ o. ⊎_elim
+    (λ e. owned_at e _ _ _ _ _ (λ a. alone_left a))
+    (λ q. ⊎_elim (λ e. owned_at e.3 _ _ _ _ _ (λ a. alone_left a)) (λ e. owned_at e.2 _ _ _ _ _ (λ a. alone_left a)) q)
+    o)
+    c.in-New.is
 
-pub returns-in-Delete : goal.returns-in-Delete
-returns-in-Delete c = owned_at c.in-Delete.is _ _ _ _ _ (λ a. alone_left a)
-
-pub returns-in-Send : goal.returns-in-Send
-returns-in-Send c = owned_at c.in-Send.is _ _ _ _ _ (λ a. alone_left a)
-
-pub returns-in-Raise : goal.returns-in-Raise
-returns-in-Raise c =
+pub returns-in-Raise-clause-owned : goal.returns-in-Raise-clause-owned
+returns-in-Raise-clause-owned c =
     owned_at c.in-Raise.is _ _ _ _ _ (λ a. c.raise_on.ensures (own_raise _ _ a _ _ c.top_map-b.ensures c.top_state-n.ensures))
 
-pub returns-in-Leave : goal.returns-in-Leave
-returns-in-Leave c = owned_at c.in-Leave.is _ _ _ _ _ (λ a. pending_left a _ _ _ _ (c.leave_on.ensures (own_row a) c.args.w))
+pub returns-in-Leave-clause-owned : goal.returns-in-Leave-clause-owned
+returns-in-Leave-clause-owned c = owned_at c.in-Leave.is _ _ _ _ _ (λ a. pending_left a _ _ _ _ (c.leave_on.ensures (own_row a) c.args.w))
 
-pub returns-in-Return : goal.returns-in-Return
-returns-in-Return c =
+pub returns-in-Return-clause-owned : goal.returns-in-Return-clause-owned
+returns-in-Return-clause-owned c =
     owned_at c.in-Return.is _ _ _ _ _ (λ a. pending_left a _ _ _ _ (c.return_on.ensures (own_return a _ c.top_state-n-in-Return.ensures) c.args.w))
 
-pub returns-in-Assert : goal.returns-in-Assert
-returns-in-Assert c = owned_at c.in-Assert.is _ _ _ _ _ (λ a. row_left a _ _ _ (c.assert_on.ensures (own_assert _ a)))
+pub returns-in-Assert-clause-owned : goal.returns-in-Assert-clause-owned
+returns-in-Assert-clause-owned c = owned_at c.in-Assert.is _ _ _ _ _ (λ a. row_left a _ _ _ (c.assert_on.ensures (own_assert _ a)))
 
-pub returns-in-Seq : goal.returns-in-Seq
-returns-in-Seq c = owned_at c.in-Seq.is _ _ _ _ _ (λ a. alone_left a)
+pub returns-in-If-clause-owned : goal.returns-in-If-clause-owned
+returns-in-If-clause-owned c = owned_at c.in-If.is _ _ _ _ _ (λ a. row_left a _ _ _ (c.if_on.ensures (own_if _ _ _ a)))
 
-pub returns-in-If : goal.returns-in-If
-returns-in-If c = owned_at c.in-If.is _ _ _ _ _ (λ a. row_left a _ _ _ (c.if_on.ensures (own_if _ _ _ a)))
-
-pub returns-in-While : goal.returns-in-While
-returns-in-While c = owned_at c.in-While.is _ _ _ _ _ (λ a. row_left a _ _ _ (c.while_on.ensures (own_while _ _ a)))
+pub returns-in-While-clause-owned : goal.returns-in-While-clause-owned
+returns-in-While-clause-owned c = owned_at c.in-While.is _ _ _ _ _ (λ a. row_left a _ _ _ (c.while_on.ensures (own_while _ _ a)))

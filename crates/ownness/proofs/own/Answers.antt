@@ -1,17 +1,16 @@
 -- `ownness::own` meets its contract: the first fault of the expressions, or else of the statements, by the law of specs/Own.antt.
-use Rattle.ownness.specs.Own.{own_line}
-use native.Mathlib.Omega.{arith}
+use Rattle.std.proofs.Common.{refl, ap, ◌∙◌, rules}
+use Rattle.faults.specs.Lines.{line_of, finds_first}
+use Rattle.ownness.specs.Own.{own_expr, own_stmt, own_line}
 use Rattle.ownness.proofs.own.Goals as goal
 
-pub joined-requires : goal.joined-requires
-joined-requires c =
-    omega (arith, c.first_stmt-s.ensures.1, c.first_expr-e.ensures.1, c.stmt_count-n.ensures, c.expr_count-x.ensures, c.front-b.ensures.1)
-
-pub onward-requires : goal.onward-requires
-onward-requires c =
-    omega (arith, c.joined.ensures.1, c.first_stmt-s.ensures.1, c.first_expr-e.ensures.1, c.stmt_count-n.ensures, c.expr_count-x.ensures, c.front-b.ensures.1)
-
 pub returns : goal.returns
-returns c =
-    let a = c.args in
-    λ p told h. own_line a.event_types.now a.kinds a.variable_of.now a.exprs.now a.stmts.now a.inits.now a.served.now _ p told c.requires h (c.expr_served-marks.ensures p told.same_exprs told.same_stmts h) _ _ _ _ _ _ c.front-b.ensures.0 c.expr_count-x.ensures c.stmt_count-n.ensures c.first_expr-e.ensures.0 c.first_stmt-s.ensures.0 (rw c.joined.ensures.0 at c.onward.ensures.0)
+returns c p told h =
+    let q = c.args.program.now in
+    let served = c.args.served.now in
+    let marks = c.expr_served-marks.result in
+    let rows = c.count_rows-c.ensures.rows in
+    c.onward.ensures.line _ (c.joined.ensures.line _ _ (finds_first (own_expr marks q.kinds q.variable_of q.exprs) c.first_bad-e.ensures (λ j b low high k. search rules))
+    (finds_first (own_stmt served q.kinds q.variable_of q.stmts q.inits) c.first_bad-s.ensures (λ j b low high k. search rules)))
+    ∙ ap line_of (own_line q.event_types q.kinds q.variable_of q.exprs q.stmts q.inits served marks p told c.requires h (c.expr_served-marks.ensures p told.same_exprs told.same_stmts h)
+    _ _ _ _ _ _ c.front.ensures.0 rows.exprs rows.stmts refl refl refl)

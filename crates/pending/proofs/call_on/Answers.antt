@@ -4,20 +4,16 @@ use Rattle.pending.proofs.call_on.Goals as goal
 
 pub returns-then-d-ge-STACK : goal.returns-then-d-ge-STACK
 returns-then-d-ge-STACK c =
-    let a = c.args in
-    call_full a.says.now a.stmts.now a.kinds.now a.entries.now a.flags.now a.k a.events a.depths.now a.states.now a.maps.now a.counts.now a.parts.now a.held.now a.n c.if-d-ge-STACK.true
+    call_full c.args.n c.if-d-ge-STACK.true
 
 pub call_frame-requires : goal.call_frame-requires
 call_frame-requires c =
-    let a = c.args in
-    call_asked a.says.now a.stmts.now a.kinds.now a.entries.now a.flags.now a.k a.events a.depths.now a.states.now a.maps.now a.counts.now a.parts.now a.held.now c.requires c.if-d-ge-STACK.false
+    call_asked c.requires c.if-d-ge-STACK.false
 
 pub begin-requires : goal.begin-requires
 begin-requires c =
-    let a = c.args in
-    call_placing a.says.now a.stmts.now a.kinds.now a.entries.now a.flags.now a.k a.events a.depths.now a.states.now a.maps.now a.counts.now a.parts.now a.held.now c.requires _
+    call_placing c.requires _
 
 pub returns : goal.returns
 returns c =
-    let a = c.args in
-    call_left a.says.now a.stmts.now a.kinds.now a.entries.now a.flags.now a.k a.events a.depths.now a.states.now a.maps.now a.counts.now a.parts.now a.held.now a.n _ _ _ _ _ _ _ c.if-d-ge-STACK.false c.entry_of-e.ensures c.call_frame.ensures c.begin.ensures.0 c.begin.ensures.1
+    call_left c.args.n _ _ _ _ _ _ _ c.if-d-ge-STACK.false (rw c.from.ensures at c.entry_of-e.ensures) c.call_frame.ensures c.begin.ensures.0 c.begin.ensures.1

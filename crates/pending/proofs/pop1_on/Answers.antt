@@ -4,10 +4,8 @@ use Rattle.pending.proofs.pop1_on.Goals as goal
 
 pub pop_frame-requires : goal.pop_frame-requires
 pop_frame-requires c =
-    let a = c.args in
-    raise_deep a.k a.depths.now a.states.now a.maps.now c.requires
+    raise_deep c.requires
 
 pub returns : goal.returns
 returns c =
-    let a = c.args in
-    raise_left a.k a.depths.now a.states.now a.maps.now _ _ _ c.pop_frame.ensures
+    raise_left _ _ _ c.pop_frame.ensures

@@ -1,24 +1,27 @@
--- `queues::holds` meets its contract: after k turns none of the first k is the number. Assumes nothing.
-use mathlib.Core.Path.{◌≡◌, sym}
-use native.Mathlib.Omega.{arith}
-use borrow.Author.Rules.{rules}
-use Rattle.queues.specs.Queues.{seen_none, seen_more, seen_hit}
+-- `queues::holds` meets its contract: `contains` on the numbers from place row on. Assumes nothing.
+use Rattle.std.specs.Prelude.{ℕ, ◌+◌, ◌-◌, ◌≡◌, refl, List, [], ◌∷◌, eqb, take, drop}
+use Rattle.std.proofs.Common.{sym, ◌∙◌, arith, eq-eqb, ne_eqb}
+use Rattle.std.proofs.Math.Logic.{dite}
+use Rattle.std.proofs.Math.Decide.{ℕ_discrete}
+use Rattle.std.specs.List.{list_any}
+use Rattle.lists.specs.Lists.{any}
+use Rattle.rows.specs.Part.{part}
 use Rattle.queues.proofs.holds.Goals as goal
 
-pub loop-k-init : goal.loop-k-init
-loop-k-init c = (search rules, seen_none _ _ _)
+-- an equality goes both ways
+eqb_turned : (x y : ℕ) → eqb y x ≡ eqb x y
+eqb_turned x y = dite (ℕ_discrete x y)
+    (λ (e : x ≡ y). eq-eqb y x (sym e) ∙ sym (eq-eqb x y e))
+    (λ (n : x ≡ y → ⊥). ne_eqb y x (λ q. n (sym q)) ∙ sym (ne_eqb x y n))
 
-pub returns-then-pairs-row : goal.returns-then-pairs-row
-returns-then-pairs-row c =
-    let a = c.args in
-    sym (seen_hit a.x a.row a.pairs.now a.n c.loop-k.k (omega arith) (omega arith) c.if-pairs-row.true)
-
-pub loop-k-preserved : goal.loop-k-preserved
-loop-k-preserved c =
-    let a = c.args in
-    (search rules, seen_more a.x a.row a.pairs.now c.loop-k.k c.loop-k.invariant.1 c.if-pairs-row.false)
+-- so whether a list has x is asked alike
+any_is : (x : ℕ) (l : List ℕ) → list_any (λ y. eqb y x) l ≡ any (eqb x) l
+any_is x [] = refl
+any_is x (y ∷ l) = rw (eqb_turned x y, any_is x l)
 
 pub returns : goal.returns
+unfolding part
 returns c =
-    let e : c.loop-k.k ≡ c.args.n = omega arith in
-    sym (rw e at c.loop-k.invariant.1)
+    let a = c.args in
+    let k : a.row + a.n - a.row ≡ a.n = omega arith in
+    c.contains.ensures.value ∙ rw k (any_is a.x (take a.n (drop a.row a.pairs.now)))

@@ -6,9 +6,9 @@ use Rattle.queues.proofs.room_for.Goals as goal
 pub returns-then-holds : goal.returns-then-holds
 returns-then-holds c =
     let a = c.args in
-    can_there a.pairs.now a.waiting.now a.i c.requires a.x (sym c.holds.ensures ∙ c.if-holds.true)
+    c.if-holds.true ∙ can_there a.pairs.now a.waiting.now a.i c.requires a.x (sym c.holds.ensures ∙ c.if-holds.true)
 
-pub returns : goal.returns
-returns c =
+pub returns-else-holds : goal.returns-else-holds
+returns-else-holds c =
     let a = c.args in
     can_new a.pairs.now a.waiting.now a.i c.requires a.x (sym c.holds.ensures ∙ c.if-holds.false)

@@ -1,30 +1,16 @@
--- `quietness::loud` meets its contract: before the turn of statement s the lower ones have their marks, and the others none.
-use Prim.Native.Nat.{ℕ}
-use lib.ListN.{length-replicate}
-use Rattle.rows.specs.Pad.{zeros_get}
-use Rattle.quietness.specs.Quiet.{quiet_first, quiet_more, quiet_all}
+-- `quietness::loud` meets its contract: the marks worked out upward are those of the statements.
+use mir.Val.{bool_byte}
 use native.Mathlib.Omega.{arith}
+use Rattle.std.proofs.Common.{◌≡◌, ℕ, Bool, true, false, not, eqb, rules}
+use Rattle.quietness.specs.Quiet.{quiet_up, quiet_all}
 use Rattle.quietness.proofs.loud.Goals as goal
 
-pub loop-s-init : goal.loop-s-init
-loop-s-init c =
-    let stmts = c.args.stmts.now in
-    (omega arith, omega arith, omega (arith, c.stmt_count-n.ensures), quiet_first stmts _ (length-replicate {A = ℕ} 1025 0) (zeros_get 0 1025))
-
-pub mark_of-y-requires : goal.mark_of-y-requires
-mark_of-y-requires c =
-    let l = c.loop-s in
-    omega (arith, c.loop-s-test.true, l.invariant.2)
-
-pub loop-s-preserved : goal.loop-s-preserved
-loop-s-preserved c =
-    let l = c.loop-s in
-    let stmts = c.args.stmts.now in
-    (omega arith, omega (arith, c.loop-s-test.true), l.invariant.2, quiet_more stmts l.s l.loud l.invariant.3 (omega (arith, c.loop-s-test.true, l.invariant.2)) _ c.mark_of-y.ensures)
+-- the byte of a test that says whether it is not quiet is 0 exactly where it is
+quiet_byte : (q : Bool) (y : ℕ) (b : Bool) → y ≡ bool_byte (not q) → q ≡ b → eqb y 0 ≡ b
+quiet_byte true y b h e = rw h e
+quiet_byte false y b h e = rw h e
 
 pub returns : goal.returns
 returns c =
-    let l = c.loop-s in
-    let n = c.stmt_count-n in
     let stmts = c.args.stmts.now in
-    quiet_all stmts l.s l.loud l.invariant.3 (omega (arith, c.loop-s-test.false, n.ensures))
+    quiet_all stmts _ _ (quiet_up stmts _ (λ k m y said. search (rules, quiet_byte)) _ (omega (arith, c.stmt_count.ensures)) _ c.climb.ensures) (omega (arith, c.stmt_count.ensures))

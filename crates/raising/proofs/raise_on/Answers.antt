@@ -9,10 +9,10 @@ pub number-v-requires : goal.number-v-requires
 number-v-requires c = (asked_readable c.requires.test, c.requires.test.bits)
 
 pub returns-then-not-suits : goal.returns-then-not-suits
-returns-then-not-suits c = λ a. raise_refused a _ c.number-v.ensures _ (rw c.index.ensures at c.event_type-t.ensures) _ c.value_of.ensures _ c.suits.ensures c.if-not-suits.true
+returns-then-not-suits c = λ a. raise_refused a _ c.number-v.ensures _ (rw c.from.ensures at c.event_type-t.ensures) _ c.value_of.ensures _ c.suits.ensures c.if-not-suits.true
 
 pub exit_or_skip-s-requires : goal.exit_or_skip-s-requires
-exit_or_skip-s-requires c = rw c.index-2.ensures (raise_asked c.requires)
+exit_or_skip-s-requires c = rw c.from-2.ensures (raise_asked c.requires)
 
 pub overflow_add-at : goal.overflow_add-at
 overflow_add-at c = omega (arith, c.requires.test.row.heading.stands.room)
@@ -38,9 +38,6 @@ offset_bounds-values-at-2 c = omega (arith, c.requires.test.row.heading.stands.r
 pub bounds-values-at-2 : goal.bounds-values-at-2
 bounds-values-at-2 c = omega (arith, c.requires.test.row.heading.stands.room)
 
-pub pair-requires : goal.pair-requires
-pair-requires c = omega (arith, c.number-v.ensures)
-
 pub offset_bounds-held-k : goal.offset_bounds-held-k
 offset_bounds-held-k c = omega (arith, c.requires.test.row.heading.stands.room)
 
@@ -52,6 +49,6 @@ only-requires c = placing_alone (placing c.requires) c.exit_or_skip-s.result
 
 pub returns : goal.returns
 returns c = λ a.
-    raise_left a _ c.number-v.ensures _ (rw c.index.ensures at c.event_type-t.ensures) _ c.value_of.ensures _ c.suits.ensures _ _ _
-    (rw c.index-2.ensures at (c.exit_or_skip-s.ensures a.test.row.p a.entries a.flags (raise_tables a) (rw c.index-2.ensures (raise_event a).1)))
-    c.code.ensures c.pair.ensures c.if-not-suits.false c.only.ensures
+    raise_left a _ c.number-v.ensures _ (rw c.from.ensures at c.event_type-t.ensures) _ c.value_of.ensures _ c.suits.ensures _ _ _
+    (rw c.from-2.ensures at (c.exit_or_skip-s.ensures a.test.row.p a.entries a.flags (raise_tables a) (rw c.from-2.ensures (raise_event a).1)))
+    c.code.ensures (omega (arith, c.pair_number.ensures, c.number-v.ensures)) c.if-not-suits.false c.only.ensures

@@ -1,19 +1,12 @@
--- `remaining::clear_row` meets its contract: the loop has cleared the first i parts.
+-- `remaining::clear_row` meets its contract: zeros in the places of the parts.
 use native.Mathlib.Omega.{arith}
-use Rattle.rows.specs.Fill.{clearing_none, clearing_more, filling_all}
+use Rattle.std.proofs.Common.{◌*◌, get_or}
+use Rattle.copies.specs.Copies.{put_filled}
 use Rattle.remaining.specs.Remaining.{clear_left}
 use Rattle.remaining.proofs.clear_row.Goals as goal
 
-pub loop-i-init : goal.loop-i-init
-loop-i-init c =
-    let r = c.requires.row in
-    clearing_none 0 (omega (arith, r.long, r.inside, r.fits))
-
-pub loop-i-preserved : goal.loop-i-preserved
-loop-i-preserved c = clearing_more 0 c.loop-i.invariant c.loop-i-test.true
-
 pub returns : goal.returns
 returns c =
-    let l = c.loop-i in
     let a = c.args in
-    clear_left a.k a.counts.now a.parts.now l.parts c.requires (filling_all 0 l.invariant c.loop-i-test.false)
+    let r = c.requires.row in
+    clear_left c.requires (put_filled (a.k * 33) _ (get_or a.counts.now a.k 0) 0 a.parts.now _ (omega arith) (omega (arith, r.long, r.inside, r.fits)) (c.fill.ensures.after (λ y e. e)))

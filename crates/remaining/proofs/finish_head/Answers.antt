@@ -4,5 +4,4 @@ use Rattle.remaining.proofs.finish_head.Goals as goal
 
 pub returns : goal.returns
 returns c =
-    let a = c.args in
-    finish_left a.k a.counts.now a.parts.now a.pending c.finish-m.result _ c.requires c.finish-m.ensures
+    finish_left c.args.pending c.requires c.finish.ensures

@@ -7,8 +7,7 @@ clear_row-requires c = c.requires.standing
 
 pub push_part-requires : goal.push_part-requires
 push_part-requires c =
-    let a = c.args in
-    cleared a.stmts.now a.k a.counts.now a.parts.now _ _ a.a c.requires c.clear_row.ensures
+    cleared c.requires c.clear_row.ensures
 
 pub returns : goal.returns
 returns c = and_then c.clear_row.ensures c.push_part.ensures

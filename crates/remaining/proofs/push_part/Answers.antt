@@ -5,15 +5,12 @@ use Rattle.remaining.proofs.push_part.Goals as goal
 
 pub bounds-parts-b : goal.bounds-parts-b
 bounds-parts-b c =
-    let a = c.args in
-    omega (arith, push_fits a.stmts.now a.k a.counts.now a.parts.now a.a c.requires)
+    omega (arith, push_fits c.requires)
 
-pub tidy-m-requires : goal.tidy-m-requires
-tidy-m-requires c =
-    let a = c.args in
-    push_ready a.stmts.now a.k a.counts.now a.parts.now a.a c.requires
+pub tidy-requires : goal.tidy-requires
+tidy-requires c =
+    push_ready c.requires
 
 pub returns : goal.returns
 returns c =
-    let a = c.args in
-    push_left a.stmts.now a.k a.counts.now a.parts.now a.a c.requires a.pending c.tidy-m.result _ c.tidy-m.ensures
+    push_left c.requires c.args.pending _ _ c.tidy.ensures

@@ -2,12 +2,10 @@
 use Rattle.remaining.specs.Remaining.{replace_ready, replace_left}
 use Rattle.remaining.proofs.replace_head.Goals as goal
 
-pub tidy-m-requires : goal.tidy-m-requires
-tidy-m-requires c =
-    let a = c.args in
-    replace_ready a.stmts.now a.k a.counts.now a.parts.now a.a c.requires.0 c.requires.1
+pub tidy-requires : goal.tidy-requires
+tidy-requires c =
+    replace_ready c.requires.0 c.requires.1
 
 pub returns : goal.returns
 returns c =
-    let a = c.args in
-    replace_left a.stmts.now a.k a.counts.now a.parts.now a.a c.requires.0 c.requires.1 a.pending c.tidy-m.result _ c.tidy-m.ensures
+    replace_left c.requires.0 c.requires.1 c.args.pending _ _ c.tidy.ensures

@@ -1,76 +1,86 @@
 -- `run_text::run_text` meets its contract: a refusal is written as it is; a loaded text is started and run, and its step lines and its end line are written.
 -- Assumes nothing.
-use Prim.Native.Nat.{ℕ, ◌^◌, ◌<◌}
-use mathlib.Core.Path.{◌≡◌, sym, ◌∙◌}
-use native.Mathlib.Omega.{arith}
-use borrow.Author.Rules.{rules}
-use mathlib.Core.List.{List}
-use Rattle.answers.specs.Number.{number}
-use Rattle.tabled.specs.Tabled.{load_of}
+use Rattle.std.specs.Prelude.{ℕ, ◌≤◌, ◌<◌, List, take, replicate, refl}
+use Rattle.std.proofs.Common.{ap, sym, ◌∙◌, arith, rules, ◌^◌, length-take-le}
+use Rattle.programs.specs.Sizes.{CHOICES}
+use Rattle.configs.specs.declared.Config.{Config}
 use Rattle.starting.specs.Started.{start_of}
-use Rattle.handed_out.specs.Called.{refusal_room, words_count, table_length, words_within}
-use Rattle.run_text.specs.Calls.{refusal_answers, ruled_length, steps_asked, ending_room, run_answers}
+use Rattle.handed_runs.specs.HandedRuns.{run_of, rules_of, fronted}
+use Rattle.handed_out.specs.Called.{refusal_room, words_count, words_within, table_length}
+use Rattle.handed_out.specs.Starts.{refused_handed, refused_above, starts_handed, starts_configured}
+use Rattle.run_text.specs.Calls.{refusal_answers, steps_within, steps_room, ending_room, run_answers}
 use Rattle.run_text.proofs.run_text.Goals as goal
-use Rattle.run_text.proofs.run_text.Goals.{After-load-loaded, After-run-ran, Else-number-ne0}
-
--- the number of a line fits its word
-line-fits : (c : After-load-loaded) → c.load-loaded.result.line < 2 ^ 64
-line-fits c = search rules
-
--- THE TEXT IS LOADED
-done : (c : Else-number-ne0) → number c.load-loaded.result.answer ≡ 0
-done c = sym c.number.ensures ∙ c.if-number-ne0.false
-
--- THE RUN: of this text,
-abbrev text_of : After-run-ran → List ℕ
-text_of c = c.args.text.now
-
--- which is loaded,
-abbrev loaded-of : (c : After-run-ran) → c.load-loaded.result ≡ load_of (text_of c)
-loaded-of c = c.load-loaded.ensures
-
--- with 0,
-abbrev done-of : (c : After-run-ran) → number c.load-loaded.result.answer ≡ 0
-done-of c = sym c.number.ensures ∙ c.if-number-ne0.false
-
--- and started
-abbrev start-of : (c : After-run-ran) → c.start-started.result ≡ start_of c.load-loaded.result.program
-start-of c = c.start-started.ensures
 
 pub write_refusal-requires : goal.write_refusal-requires
 write_refusal-requires c =
-    refusal_room c.args.text.now c.load-loaded.ensures _ (omega (arith, c.write_refusal-arg-1.given.0.1)) (line-fits (goal.at.write_refusal-requires c).After-load-loaded)
+    let e = refused_handed c.args.text.now c.in-Err.refusal (sym c.in-Err.is ∙ c.start_text.ensures) in
+    let f : c.in-Err.refusal.line < 2 ^ 64 = search rules in
+    refusal_room c.args.text.now e c.args.out.now (omega (arith, c.told-out)) f
 
-pub returns-then-number-ne0 : goal.returns-then-number-ne0
-returns-then-number-ne0 c =
-    refusal_answers c.args.text.now c.load-loaded.ensures (λ e. c.if-number-ne0.true (c.number.ensures ∙ e)) c.write_refusal.ensures
+pub returns-in-Err : goal.returns-in-Err
+returns-in-Err c =
+    let is = sym c.in-Err.is ∙ c.start_text.ensures in
+    refusal_answers c.args.text.now (refused_handed c.args.text.now c.in-Err.refusal is) (refused_above c.args.text.now c.in-Err.refusal is) c.write_refusal.ensures
+
+pub shared_ref_as_front-choices : goal.shared_ref_as_front-choices
+shared_ref_as_front-choices c =
+    let e = starts_handed c.args.text.now c.in-Ok.start (sym c.in-Ok.is ∙ c.start_text.ensures) in
+    let h : c.in-Ok.start.loaded.count ≤ 4096 = omega (arith, words_within c.args.text.now e refl, table_length c.args.text.now e refl) in
+    h
 
 pub slice_bounds-choices-end : goal.slice_bounds-choices-end
-slice_bounds-choices-end c =
-    words_within c.args.text.now c.load-loaded.ensures (done (goal.at.slice_bounds-choices-end c).Else-number-ne0)
+slice_bounds-choices-end c = words_count c.args.text.now (starts_handed c.args.text.now c.in-Ok.start (sym c.in-Ok.is ∙ c.start_text.ensures)) refl
 
-pub slice_bounds-run-end : goal.slice_bounds-run-end
-slice_bounds-run-end c =
-    words_count c.args.text.now c.load-loaded.ensures (done (goal.at.slice_bounds-run-end c).Else-number-ne0)
+pub slice_bounds-rules-end : goal.slice_bounds-rules-end
+slice_bounds-rules-end c =
+    let is = sym c.in-Ok.is ∙ c.start_text.ensures in
+    let k = starts_configured c.args.text.now c.in-Ok.start is in
+    let q = c.in-Ok.start.loaded in
+    let l : List ℕ = take q.count q.choices in
+    steps_within c.args.text.now (starts_handed c.args.text.now c.in-Ok.start is) refl {s = start_of q.program} refl
+    (c.run-ran.ensures.0 ∙ ap (λ (d : Config). run_of q.program d l) k)
+    (c.run-ran.ensures.1 ∙ ap (λ (d : Config). fronted (rules_of q.program d l) (replicate CHOICES 0)) k)
 
-pub slice_bounds-tell_steps-end-2 : goal.slice_bounds-tell_steps-end-2
-slice_bounds-tell_steps-end-2 c =
-    sym (table_length c.args.text.now c.load-loaded.ensures (done (goal.at.slice_bounds-tell_steps-end-2 c).Else-number-ne0))
-
-pub slice_bounds-tell_steps-end-3 : goal.slice_bounds-tell_steps-end-3
-slice_bounds-tell_steps-end-3 c =
-    sym (ruled_length (text_of (goal.at.slice_bounds-tell_steps-end-3 c).After-run-ran) (loaded-of (goal.at.slice_bounds-tell_steps-end-3 c).After-run-ran) (done-of (goal.at.slice_bounds-tell_steps-end-3 c).After-run-ran) (start-of (goal.at.slice_bounds-tell_steps-end-3 c).After-run-ran) c.run-ran.ensures.0 c.run-ran.ensures.1)
+pub slice_bounds-taken-end : goal.slice_bounds-taken-end
+slice_bounds-taken-end c =
+    let is = sym c.in-Ok.is ∙ c.start_text.ensures in
+    let k = starts_configured c.args.text.now c.in-Ok.start is in
+    let q = c.in-Ok.start.loaded in
+    let l : List ℕ = take q.count q.choices in
+    sym (length-take-le _ _
+    (steps_within c.args.text.now (starts_handed c.args.text.now c.in-Ok.start is) refl {s = start_of q.program} refl
+    (c.run-ran.ensures.0 ∙ ap (λ (d : Config). run_of q.program d l) k)
+    (c.run-ran.ensures.1 ∙ ap (λ (d : Config). fronted (rules_of q.program d l) (replicate CHOICES 0)) k)))
 
 pub tell_steps-place-requires : goal.tell_steps-place-requires
 tell_steps-place-requires c =
-    steps_asked (text_of (goal.at.tell_steps-place-requires c).After-run-ran) (loaded-of (goal.at.tell_steps-place-requires c).After-run-ran) (done-of (goal.at.tell_steps-place-requires c).After-run-ran) (start-of (goal.at.tell_steps-place-requires c).After-run-ran) c.run-ran.ensures.0 c.run-ran.ensures.1 _ c.tell_steps-arg-1.given.0.1
+    let is = sym c.in-Ok.is ∙ c.start_text.ensures in
+    let k = starts_configured c.args.text.now c.in-Ok.start is in
+    let q = c.in-Ok.start.loaded in
+    let l : List ℕ = take q.count q.choices in
+    steps_room c.args.text.now (starts_handed c.args.text.now c.in-Ok.start is) refl {s = start_of q.program} refl
+    (c.run-ran.ensures.0 ∙ ap (λ (d : Config). run_of q.program d l) k)
+    (c.run-ran.ensures.1 ∙ ap (λ (d : Config). fronted (rules_of q.program d l) (replicate CHOICES 0)) k)
+    c.args.out.now c.told-out
 
 pub write_ending-requires : goal.write_ending-requires
 write_ending-requires c =
-    ending_room (text_of (goal.at.write_ending-requires c).After-run-ran) (loaded-of (goal.at.write_ending-requires c).After-run-ran) (done-of (goal.at.write_ending-requires c).After-run-ran) (start-of (goal.at.write_ending-requires c).After-run-ran) c.run-ran.ensures.0 c.run-ran.ensures.1 _ c.tell_steps-arg-1.given.0.1
-    c.tell_steps-place.ensures c.live_machines-live.ensures
+    let is = sym c.in-Ok.is ∙ c.start_text.ensures in
+    let k = starts_configured c.args.text.now c.in-Ok.start is in
+    let q = c.in-Ok.start.loaded in
+    let l : List ℕ = take q.count q.choices in
+    ending_room c.args.text.now (starts_handed c.args.text.now c.in-Ok.start is) refl {s = start_of q.program} refl
+    (c.run-ran.ensures.0 ∙ ap (λ (d : Config). run_of q.program d l) k)
+    (c.run-ran.ensures.1 ∙ ap (λ (d : Config). fronted (rules_of q.program d l) (replicate CHOICES 0)) k)
+    c.args.out.now c.told-out c.tell_steps-place.ensures c.live_machines-live.ensures
 
 pub returns : goal.returns
 returns c =
-    run_answers (text_of (goal.at.returns c).After-run-ran) (loaded-of (goal.at.returns c).After-run-ran) (done-of (goal.at.returns c).After-run-ran) (start-of (goal.at.returns c).After-run-ran) c.run-ran.ensures.0 c.run-ran.ensures.1 _ c.tell_steps-arg-1.given.0.1
-    c.tell_steps-place.ensures c.live_machines-live.ensures c.write_ending.ensures
+    let is = sym c.in-Ok.is ∙ c.start_text.ensures in
+    let k = starts_configured c.args.text.now c.in-Ok.start is in
+    let q = c.in-Ok.start.loaded in
+    let l : List ℕ = take q.count q.choices in
+    run_answers c.args.text.now (starts_handed c.args.text.now c.in-Ok.start is) refl {s = start_of q.program} refl
+    (c.run-ran.ensures.0 ∙ ap (λ (d : Config). run_of q.program d l) k)
+    (c.run-ran.ensures.1 ∙ ap (λ (d : Config). fronted (rules_of q.program d l) (replicate CHOICES 0)) k)
+    c.args.out.now c.told-out c.tell_steps-place.ensures c.live_machines-live.ensures c.write_ending.ensures

@@ -11,11 +11,11 @@ admitted-requires c = c.requires.laid
 
 pub returns-then-not-admitted : goal.returns-then-not-admitted
 returns-then-not-admitted c =
-    left_unaccepted c.args.program _ _ _ c.requires.laid c.admitted.ensures (ap not c.if-not-admitted.true) c.stopped.ensures
+    left_unaccepted c.args.program.now _ _ _ c.requires.laid c.admitted.ensures (ap not c.if-not-admitted.true) c.stopped.ensures
 
-pub returns-then-count-gt-CHOICES : goal.returns-then-count-gt-CHOICES
-returns-then-count-gt-CHOICES c =
-    left_long c.args.program _ _ _ c.requires.laid c.admitted.ensures (ap not c.if-not-admitted.false) c.if-count-gt-CHOICES.true c.stopped-then-count-gt-CHOICES.ensures
+pub returns-then-choices-gt-CHOICES : goal.returns-then-choices-gt-CHOICES
+returns-then-choices-gt-CHOICES c =
+    left_long c.args.program.now _ _ _ c.requires.laid c.admitted.ensures (ap not c.if-not-admitted.false) c.if-choices-gt-CHOICES.true c.stopped-then-choices-gt-CHOICES.ensures
 
 pub run_accepted-requires : goal.run_accepted-requires
 run_accepted-requires c =
@@ -23,10 +23,10 @@ run_accepted-requires c =
       laid = c.requires.laid;
       one = passed _ c.admitted.ensures (ap not c.if-not-admitted.false);
       inside = search rules;
-      few = c.if-count-gt-CHOICES.false;
+      few = c.if-choices-gt-CHOICES.false;
       room = c.requires.room;
     }
 
 pub returns : goal.returns
 returns c =
-    left_run c.args.program _ _ _ c.requires.laid c.admitted.ensures (ap not c.if-not-admitted.false) c.if-count-gt-CHOICES.false c.run_accepted.ensures
+    left_run c.args.program.now _ _ _ c.requires.laid c.admitted.ensures (ap not c.if-not-admitted.false) c.if-choices-gt-CHOICES.false c.run_accepted.ensures

@@ -1,36 +1,15 @@
--- `sizing::kinds_fit` meets its contract: before a turn none of the first k kinds has too many variables. Assumes nothing.
-use mathlib.Core.Path.{◌≡◌, refl, sym}
-use mathlib.Core.Bool.{Bool}
-use Prim.Native.Nat.{ℕ}
-use borrow.Author.Tests.{le-leb, lt-leb}
-use lib.Dec.{leb}
-use lib.ListN.{length}
+-- `sizing::kinds_fit` meets its contract: none is found where no kind has too many variables. Assumes nothing.
+use Rattle.std.proofs.Common.{ℕ, ◌∙◌, ap, not, sym, Bool, length, leb, rules}
+use Rattle.lists.specs.Lists.{up_to}
 use Rattle.programs.specs.Program.{Program as Lines, variables_of as variables_of_kind}
-use Rattle.sizing.specs.Upward.{up_more, up_fails}
-use native.Mathlib.Omega.{arith}
+use Rattle.faults.specs.Lines.{finds_none, not_same}
 use Rattle.sizing.proofs.kinds_fit.Goals as goal
 
 -- kind k has not too many
 abbrev fits : Lines → ℕ → Bool
 fits p k = leb (length (variables_of_kind p k)) 16
 
-pub loop-k-init : goal.loop-k-init
-loop-k-init c = (omega arith, λ p types e. refl)
-
-pub returns-then-variables_of-gt-VARIABLES : goal.returns-then-variables_of-gt-VARIABLES
-returns-then-variables_of-gt-VARIABLES c p types e =
-    let l = c.loop-k in
-    let a = c.args in
-    sym (up_fails (fits p) a.n l.k (omega arith) (rw (← c.variables_of.ensures p types e) (lt-leb _ 16 c.if-variables_of-gt-VARIABLES.true)))
-
-pub loop-k-preserved : goal.loop-k-preserved
-loop-k-preserved c =
-    let l = c.loop-k in
-    (omega arith, λ p types e. up_more (fits p) l.k (l.invariant.1 p types e) (rw (← c.variables_of.ensures p types e) (le-leb _ 16 c.if-variables_of-gt-VARIABLES.false)))
-
 pub returns : goal.returns
-returns c p types e =
-    let l = c.loop-k in
-    let a = c.args in
-    let n : a.n ≡ l.k = omega arith in
-    sym (rw n (l.invariant.1 p types e))
+returns c = λ p types e. not_same c.is_none.result (up_to c.args.program.now.kinds (fits p))
+    (sym c.is_none.ensures ∙ finds_none (fits p) c.first_bad.ensures (λ j b low high w. rw e (search rules))
+    ∙ ap (λ (n : ℕ). not (up_to n (fits p))) c.from-n.ensures)

@@ -1,40 +1,26 @@
--- `sizing::pairs_ascend` meets its contract: before a turn each of the first j variables is below the next. Assumes nothing.
-use mathlib.Core.Path.{sym}
-use mathlib.Core.List.{List, map}
-use Prim.Native.Nat.{ℕ, ◌+◌}
-use borrow.Author.Tests.{lt-ltb, le-ltb}
+-- `sizing::pairs_ascend` meets its contract: what is asked of number j is that variable j - 1 is below variable j. Assumes nothing.
+use Rattle.std.proofs.Common.{◌≡◌, ℕ, ◌+◌, ◌-◌, ◌*◌, ◌≤◌, ◌<◌, ◌∙◌, min, Bool, List, map, length, get_or, refl, arith, rules}
+use Rattle.std.proofs.Math.Dec.{ltb}
 use Rattle.tables.specs.Decode.{pairs_of}
 use Rattle.tables.specs.Tables.{column_length, column_get}
-use Rattle.sizing.specs.Ascending.{rising_more, rising_ascends, not_ascends}
-use native.Mathlib.Omega.{arith}
+use Rattle.faults.specs.Ranges.{all_below}
+use Rattle.sizing.specs.Ascending.{ascends_told}
 use Rattle.sizing.proofs.pairs_ascend.Goals as goal
 
 -- the variables of the pairs
 abbrev variables : List ℕ → ℕ → ℕ → List ℕ
 variables inits i n = map (λ xe. xe.0) (pairs_of inits i n)
 
-pub loop-j-init : goal.loop-j-init
-loop-j-init c = (omega arith, c.rows_from-m.ensures, λ j h. absurd (omega arith))
-
-pub returns-then-inits-i : goal.returns-then-inits-i
-returns-then-inits-i c =
-    let l = c.loop-j in
-    let a = c.args in
-    sym (not_ascends (variables a.inits.now a.i a.n) l.j (omega (arith, column_length a.inits.now a.i a.n (λ xe. xe.0)))
-    (rw (column_get a.inits.now a.i a.n (λ xe. xe.0) l.j (omega arith), column_get a.inits.now a.i a.n (λ xe. xe.0) (l.j + 1) (omega arith)) (le-ltb _ _ c.if-inits-i.true)))
-
-pub loop-j-preserved : goal.loop-j-preserved
-loop-j-preserved c =
-    let l = c.loop-j in
-    let a = c.args in (
-      omega arith,
-      l.invariant.1,
-      rising_more (variables a.inits.now a.i a.n) l.j l.invariant.2
-          (rw (column_get a.inits.now a.i a.n (λ xe. xe.0) l.j (omega arith), column_get a.inits.now a.i a.n (λ xe. xe.0) (l.j + 1) (omega arith)) (lt-ltb _ _ c.if-inits-i.false)),
-    )
+-- what is asked of number j
+asked : (inits : List ℕ) (i n j : ℕ) {r : Bool} → 1 ≤ j → j < min n (15000 - i) → r ≡ ltb (get_or inits ((i + (j - 1)) * 2) 0) (get_or inits ((i + j) * 2) 0)
+    → r ≡ ltb (get_or (variables inits i n) (j - 1) 0) (get_or (variables inits i n) j 0)
+asked inits i n j low high q = rw (column_get inits i n (λ xe. xe.0) (j - 1) (omega arith), column_get inits i n (λ xe. xe.0) j high) q
 
 pub returns : goal.returns
 returns c =
-    let l = c.loop-j in
     let a = c.args in
-    sym (rising_ascends (variables a.inits.now a.i a.n) l.j (omega (arith, column_length a.inits.now a.i a.n (λ xe. xe.0))) l.invariant.2)
+    let q = a.inits.now in
+    let m : length (variables q a.i a.n) ≡ c.rows_from.result = column_length q a.i a.n (λ xe. xe.0) ∙ search rules in
+    ascends_told (variables q a.i a.n) c.rows_from.result m c.all.result
+    (all_below (λ j b. 1 ≤ j → j < c.rows_from.result → b ≡ ltb (get_or (variables q a.i a.n) (j - 1) 0) (get_or (variables q a.i a.n) j 0)) (λ x r f k. search rules)
+    (λ j b k low high. asked q a.i a.n j low (omega (arith, c.rows_from.ensures)) (search rules)) c.all.result refl c.all.ensures.runs)

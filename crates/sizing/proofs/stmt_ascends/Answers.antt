@@ -29,4 +29,4 @@ pub returns-in_default : goal.returns-in_default
 returns-in_default c = sym (no_new c.args.inits.now c.args.h c.in_default.not-New)
 
 pub returns : goal.returns
-returns c = rw c.in-New.is c.pairs_ascend.ensures
+returns c = rw (c.in-New.is, ← c.from.ensures, ← c.from-2.ensures) c.pairs_ascend.ensures

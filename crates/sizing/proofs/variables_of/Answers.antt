@@ -1,41 +1,21 @@
--- `sizing::variables_of` meets its contract: before a turn the first i variables are counted. Assumes nothing.
-use mathlib.Core.Path.{◌≡◌, refl, ap, sym, ◌∙◌}
-use mathlib.Core.Bool.{cond}
-use mathlib.Core.List.{List}
-use Prim.Native.Nat.{ℕ, ◌+◌}
-use lib.Dec.{eqb}
-use lib.ListN.{length}
-use lib.Seq.{take_all}
-use Rattle.lists.specs.Lists.{at, keep}
-use Rattle.programs.specs.Program.{Program as Lines, Variable, is_of}
+-- `sizing::variables_of` meets its contract: the numbers of the kind's variables are counted. Assumes nothing.
+use Rattle.std.proofs.Common.{ℕ, ◌≡◌, ◌+◌, ◌∙◌, ap, sym, length, rules, tests, arith}
+use Rattle.std.proofs.lemmas.Iterator.{YieldsList-from_range}
+use Rattle.std.proofs.lemmas.Iterator.Consumers.{YieldsList-from_filter, count_from_yields_List}
+use Rattle.std.proofs.lemmas.List.Sums.{length-filter}
+use Rattle.std.specs.List.{count_by, range_with_len}
+use Rattle.lists.specs.Lists.{at}
+use Rattle.programs.specs.Program.{is_of}
 use Rattle.tables.specs.Decode.{no_variable, variables_of}
 use Rattle.tables.specs.Tables.{variables_length}
-use Rattle.sizing.specs.Counted.{kept_more}
-use native.Mathlib.Omega.{arith}
+use Rattle.sizing.specs.Counted.{count_numbers}
 use Rattle.sizing.proofs.variables_of.Goals as goal
 
--- what is counted of variable i + 1
-counted : (p : Lines) (owners types : List ℕ) (i k : ℕ) {of r : ℕ} → p.variables ≡ variables_of owners types → of ≡ (at no_variable (variables_of owners types) (i + 1)).of → r ≡ cond (eqb of k) 1 0
-    → r ≡ cond (is_of k (at no_variable p.variables (i + 1))) 1 0
-counted p owners types i k e ho hr = rw (e, hr, ho)
-
-pub loop-i-init : goal.loop-i-init
-loop-i-init c = (omega arith, omega (arith, c.variable_count-n.ensures), omega arith, λ p types e. refl)
-
-pub loop-i-preserved : goal.loop-i-preserved
-loop-i-preserved c =
-    let l = c.loop-i in
-    let a = c.args in (
-      omega arith,
-      omega arith,
-      omega (arith, c.one_if-found.ensures.0),
-      λ p types e.
-          sym (kept_more (is_of a.k) no_variable p.variables l.i (omega (arith, ap length e, variables_length a.owners.now types, c.variable_count-n.ensures))
-          ∙ rw (← l.invariant.3 p types e, ← counted p a.owners.now types l.i a.k e (c.variable_kind-of.ensures types) c.one_if-found.ensures.1)),
-    )
-
 pub returns : goal.returns
-returns c p types e =
-    let l = c.loop-i in
-    let a = c.args in
-    l.invariant.3 p types e ∙ ap (λ (v : List Variable). length (keep (is_of a.k) v)) (take_all l.i p.variables (omega (arith, ap length e, variables_length a.owners.now types, c.variable_count-n.ensures)))
+returns c types =
+    let n = c.variable_count.result in
+    let vars = variables_of c.args.kinds.now types in
+    let test = λ (x : ℕ). is_of c.args.kind (at no_variable vars x) in
+    let m : length vars ≡ n = variables_length c.args.kinds.now types ∙ sym c.variable_count.ensures in
+    count_from_yields_List c.filter.result _ c.count.ensures.ran (YieldsList-from_filter _ test (YieldsList-from_range 1 (n + 1) n (cc) (omega arith)) c.filter.ensures.closure (λ x b q k. search (rules, tests)))
+    ∙ length-filter test (range_with_len 1 n) ∙ ap (λ (k : ℕ). count_by test (range_with_len 1 k)) (sym m) ∙ count_numbers (is_of c.args.kind) no_variable vars

@@ -7,17 +7,18 @@ use Rattle.starting.proofs.start_sound.Goals as goal
 
 pub overflow_cast-state : goal.overflow_cast-state
 overflow_cast-state c =
-    let q = c.args.program in
+    let q = c.args.program.now in
     omega (arith, c.initial_state-state.ensures, initial_small q.state_of q.start.0)
 
 pub lay_new-requires : goal.lay_new-requires
 lay_new-requires c =
-    start_lay c.args.program c.requires c.entry_of-entry.result
+    rw c.new-flat.ensures (start_lay c.args.program.now c.requires c.entry_of-entry.result)
 
 pub lift-requires : goal.lift-requires
-lift-requires c = laid_sized refl c.lay_new.ensures
+lift-requires c = rw c.new-flat.ensures (laid_sized refl (rw c.new-flat.ensures at c.lay_new.ensures))
 
 pub returns : goal.returns
 returns c =
-    c.lift.ensures ∙ start_written c.args.program c.requires _
-    (start_laid c.args.program c.requires c.code.result c.code.ensures c.initial_state-state.result c.initial_state-state.ensures c.entry_of-entry.result c.entry_of-entry.ensures c.lay_new.ensures)
+    c.lift.ensures ∙ rw c.new-flat.ensures (start_written c.args.program.now c.requires _
+    (start_laid c.args.program.now c.requires c.code.result c.code.ensures c.initial_state-state.result c.initial_state-state.ensures c.entry_of-entry.result c.entry_of-entry.ensures
+    (rw c.new-flat.ensures at c.lay_new.ensures)))

@@ -1,5 +1,6 @@
 -- `statements::while_on` meets its contract, a case for each way out.
-use mathlib.Core.Path.{refl}
+use Rattle.std.proofs.Common.{◌≡◌, refl, ap, ◌∙◌, Some, Err, rules}
+use Rattle.answers.specs.declared.Answer.TheVariants.{NotABool}
 use mathlib.Core.List.{[]}
 use Rattle.lists.specs.Facts.{first_has}
 use Rattle.statements.specs.Heading.{asked_headed, placing_before}
@@ -8,11 +9,13 @@ use Rattle.statements.specs.Left.{while_none, while_false, while_true}
 use native.Mathlib.Omega.{arith}
 use Rattle.statements.proofs.while_on.Goals as goal
 
-pub condition-c-requires : goal.condition-c-requires
-condition-c-requires c = (asked_readable c.requires.test, c.requires.test.bits)
+pub condition-requires : goal.condition-requires
+condition-requires c = (asked_readable c.requires.test, c.requires.test.bits)
 
-pub returns-then-c-eq2 : goal.returns-then-c-eq2
-returns-then-c-eq2 c = λ q. while_none q _ c.condition-c.ensures c.if-c-eq2.true
+pub returns-in_err-c : goal.returns-in_err-c
+returns-in_err-c c = λ q.
+    let r : c.from_residual.result ≡ Err NotABool = search rules in
+    rw r (while_none q _ c.condition.ensures c.in_err-c.ensures.ok_part)
 
 pub offset_bounds-held-k : goal.offset_bounds-held-k
 offset_bounds-held-k c = omega (arith, c.requires.test.row.heading.stands.room)
@@ -23,11 +26,11 @@ bounds-held-k c = omega (arith, c.requires.test.row.heading.stands.room)
 pub finish_head-requires : goal.finish_head-requires
 finish_head-requires c = asked_headed c.requires.test.row
 
-pub returns-then-c-eq0 : goal.returns-then-c-eq0
-returns-then-c-eq0 c = λ q. while_false q _ c.condition-c.ensures _ refl c.if-c-eq0.true c.finish_head.ensures
+pub returns-then-not-c : goal.returns-then-not-c
+returns-then-not-c c = λ q. while_false q _ c.condition.ensures _ refl (c.in_ok-c.ensures.ok_part ∙ ap Some c.if-not-c.true) c.finish_head.ensures
 
 pub push_part-requires : goal.push_part-requires
 push_part-requires c = placing_before (branching c.requires) c.args.a (first_has c.args.a [])
 
 pub returns : goal.returns
-returns c = λ q. while_true q _ c.condition-c.ensures _ refl c.if-c-eq2.false c.if-c-eq0.false c.push_part.ensures
+returns c = λ q. while_true q _ c.condition.ensures _ refl (c.in_ok-c.ensures.ok_part ∙ ap Some c.if-not-c.false) c.push_part.ensures

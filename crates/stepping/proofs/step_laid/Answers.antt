@@ -9,7 +9,7 @@ pub returns-then-not-admitted : goal.returns-then-not-admitted
 returns-then-not-admitted c =
     record {
       sized = c.requires.sized;
-      done = step_unaccepted c.args.program _ c.args.machine c.args.bits _ _ refl c.admitted.ensures (ap not c.if-not-admitted.true);
+      done = step_unaccepted c.args.program.now _ c.args.machine c.args.bits _ _ refl c.admitted.ensures (ap not c.if-not-admitted.true);
     }
 
 pub returns-then-machine-ge-LIVE_NUMBERS : goal.returns-then-machine-ge-LIVE_NUMBERS
@@ -22,8 +22,8 @@ run_accepted-end-requires c =
 
 pub returns-then-end-eq1 : goal.returns-then-end-eq1
 returns-then-end-eq1 c =
-    left_took c.args.machine c.args.bits c.requires (passed _ c.admitted.ensures (ap not c.if-not-admitted.false)) c.ranges.bits.fits c.run_accepted-end.ensures c.if-end-eq1.true c.rule_of.ensures
+    left_took c.args.machine c.args.bits c.requires (passed _ c.admitted.ensures (ap not c.if-not-admitted.false)) c.ranges.bits.fits (rw c.from.ensures at c.run_accepted-end.ensures) c.if-end-eq1.true c.rule_of.ensures
 
-pub returns : goal.returns
-returns c =
-    left_refused c.args.machine c.args.bits c.requires (passed _ c.admitted.ensures (ap not c.if-not-admitted.false)) c.ranges.bits.fits c.run_accepted-end.ensures c.if-end-eq1.false
+pub returns-else-end-eq1 : goal.returns-else-end-eq1
+returns-else-end-eq1 c =
+    left_refused c.args.machine c.args.bits c.requires (passed _ c.admitted.ensures (ap not c.if-not-admitted.false)) c.ranges.bits.fits (rw c.from.ensures at c.run_accepted-end.ensures) c.if-end-eq1.false

@@ -10,10 +10,10 @@ pub number-v-requires : goal.number-v-requires
 number-v-requires c = (asked_readable c.requires.test, c.requires.test.bits)
 
 pub returns-then-not-suits : goal.returns-then-not-suits
-returns-then-not-suits c = λ a. assign_refused a _ c.number-v.ensures _ (rw c.wide.ensures at c.variable_type-t.ensures) _ c.value_of.ensures _ c.suits.ensures c.if-not-suits.true
+returns-then-not-suits c = λ a. assign_refused a _ c.number-v.ensures _ (rw c.from.ensures at c.variable_type-t.ensures) _ c.value_of.ensures _ c.suits.ensures c.if-not-suits.true
 
-pub bounds-places-x : goal.bounds-places-x
-bounds-places-x c = omega (arith, assign_256 c.requires)
+pub bounds-places-from : goal.bounds-places-from
+bounds-places-from c = omega (arith, assign_256 c.requires, c.from-2.ensures)
 
 pub overflow_add-values : goal.overflow_add-values
 overflow_add-values c = omega (arith, c.requires.test.row.heading.stands.room)
@@ -22,13 +22,13 @@ pub overflow_mul-values : goal.overflow_mul-values
 overflow_mul-values c = omega (arith, c.requires.test.row.heading.stands.room)
 
 pub overflow_add-values-2 : goal.overflow_add-values-2
-overflow_add-values-2 c = omega (arith, c.requires.test.row.heading.stands.room, assign_place c.requires, c.index-j.ensures)
+overflow_add-values-2 c = omega (arith, c.requires.test.row.heading.stands.room, assign_place c.requires, rw c.from-2.ensures at c.from-j.ensures)
 
 pub offset_bounds-values-k : goal.offset_bounds-values-k
-offset_bounds-values-k c = omega (arith, c.requires.test.row.heading.stands.room, assign_place c.requires, c.index-j.ensures)
+offset_bounds-values-k c = omega (arith, c.requires.test.row.heading.stands.room, assign_place c.requires, rw c.from-2.ensures at c.from-j.ensures)
 
 pub bounds-values-k : goal.bounds-values-k
-bounds-values-k c = omega (arith, c.requires.test.row.heading.stands.room, assign_place c.requires, c.index-j.ensures)
+bounds-values-k c = omega (arith, c.requires.test.row.heading.stands.room, assign_place c.requires, rw c.from-2.ensures at c.from-j.ensures)
 
 pub offset_bounds-held-k : goal.offset_bounds-held-k
 offset_bounds-held-k c = omega (arith, c.requires.test.row.heading.stands.room)
@@ -40,4 +40,4 @@ pub finish_head-requires : goal.finish_head-requires
 finish_head-requires c = asked_headed c.requires.test.row
 
 pub returns : goal.returns
-returns c = λ a. assign_left a _ c.number-v.ensures _ (rw c.wide.ensures at c.variable_type-t.ensures) _ c.value_of.ensures _ c.suits.ensures _ c.index-j.ensures _ refl c.if-not-suits.false c.finish_head.ensures
+returns c = λ a. assign_left a _ c.number-v.ensures _ (rw c.from.ensures at c.variable_type-t.ensures) _ c.value_of.ensures _ c.suits.ensures _ (rw c.from-2.ensures at c.from-j.ensures) _ refl c.if-not-suits.false c.finish_head.ensures

@@ -1,23 +1,12 @@
 -- `tables::body_of` meets its contract: the statement stands in row a of the bodies, and the count in the kinds.
-use mathlib.Core.Path.{sym, ap}
+use Rattle.std.proofs.Common.{ℕ, refl}
 use Rattle.programs.specs.Program.{Action}
 use Rattle.tables.specs.Decode.{no_action, action_in, actions_of}
-use Rattle.tables.specs.Numbered.{at_row, at_past, at_zero}
+use Rattle.tables.proofs.Column.{of_row}
 use Rattle.tables.proofs.body_of.Goals as goal
 
-pub returns-then-a-n : goal.returns-then-a-n
+pub returns : goal.returns
 unfolding actions_of
-returns-then-a-n c =
+returns c =
     let a = c.args in
-    sym (ap (λ (q : Action). q.body) (at_row (action_in a.kinds.now a.bodies.now) no_action c.action_count-n.ensures c.if-a-gt0.true c.if-a-n.true))
-
-pub returns-else-a-n : goal.returns-else-a-n
-unfolding actions_of
-returns-else-a-n c =
-    let a = c.args in
-    sym (ap (λ (q : Action). q.body) (at_past (action_in a.kinds.now a.bodies.now) no_action c.action_count-n.ensures c.if-a-n.false))
-
-pub returns-else-a-gt0 : goal.returns-else-a-gt0
-returns-else-a-gt0 c =
-    let a = c.args in
-    sym (ap (λ (q : Action). q.body) (at_zero no_action (actions_of a.kinds.now a.bodies.now) c.if-a-gt0.false))
+    of_row (λ (q : Action). q.body) (λ (n : ℕ). n) (action_in a.kinds.now a.bodies.now) no_action a.bodies.now a.a c.action_count.ensures refl refl c.row_or.ensures

@@ -1,23 +1,12 @@
 -- `tables::entry_of` meets its contract, whatever the exits and the flags are: the statement stands in row n of the entries.
-use mathlib.Core.Path.{sym, ap}
+use Rattle.std.proofs.Common.{ℕ, refl}
 use Rattle.programs.specs.Program.{State}
 use Rattle.tables.specs.Decode.{no_state, state_in, states_of}
-use Rattle.tables.specs.Numbered.{at_row, at_past, at_zero}
+use Rattle.tables.proofs.Column.{of_row}
 use Rattle.tables.proofs.entry_of.Goals as goal
 
-pub returns-then-n-m : goal.returns-then-n-m
+pub returns : goal.returns
 unfolding states_of
-returns-then-n-m c exits flags =
+returns c exits flags =
     let a = c.args in
-    sym (ap (λ (q : State). q.entry) (at_row (state_in a.kinds.now a.entries.now exits flags) no_state c.state_count-m.ensures c.if-n-gt0.true c.if-n-m.true))
-
-pub returns-else-n-m : goal.returns-else-n-m
-unfolding states_of
-returns-else-n-m c exits flags =
-    let a = c.args in
-    sym (ap (λ (q : State). q.entry) (at_past (state_in a.kinds.now a.entries.now exits flags) no_state c.state_count-m.ensures c.if-n-m.false))
-
-pub returns-else-n-gt0 : goal.returns-else-n-gt0
-returns-else-n-gt0 c exits flags =
-    let a = c.args in
-    sym (ap (λ (q : State). q.entry) (at_zero no_state (states_of a.kinds.now a.entries.now exits flags) c.if-n-gt0.false))
+    of_row (λ (q : State). q.entry) (λ (n : ℕ). n) (state_in a.kinds.now a.entries.now exits flags) no_state a.entries.now a.n c.state_count.ensures refl refl c.row_or.ensures

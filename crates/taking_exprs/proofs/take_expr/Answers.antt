@@ -20,29 +20,29 @@ pub take_int-requires : goal.take_int-requires
 take_int-requires c =
     expr_room c.requires.expr_held _ (sym c.is_next.ensures ∙ c.if-not-is_next.false)
 
-pub returns-then-row-eq16 : goal.returns-then-row-eq16
-returns-then-row-eq16 c h i b e q =
+pub returns-in-16 : goal.returns-in-16
+returns-in-16 c h i b e q =
     let t = sym c.is_next.ensures ∙ c.if-not-is_next.false in
-    expr_valued h _ _ _ c.requires.le_row.0 c.requires.le_row.1 q c.number_at.ensures t (int_says _ _ (rw c.if-row-eq16.true at q))
+    expr_valued h _ _ _ c.requires.le_row.0 c.requires.le_row.1 q c.number_at.ensures t (int_says _ _ (rw c.in-16.is at q))
     (c.take_int.ensures (expr_room h _ t) _ (to_z-of_z {w = w64} (record { sfits = c.val_at.type_inv }) ∙ c.val_at.ensures))
 
 pub take_bool-requires : goal.take_bool-requires
 take_bool-requires c =
     expr_room c.requires.expr_held _ (sym c.is_next.ensures ∙ c.if-not-is_next.false)
 
-pub returns-then-row-eq17 : goal.returns-then-row-eq17
-returns-then-row-eq17 c h i b e q =
+pub returns-in-17 : goal.returns-in-17
+returns-in-17 c h i b e q =
     let t = sym c.is_next.ensures ∙ c.if-not-is_next.false in
-    expr_valued h _ _ _ c.requires.le_row.0 c.requires.le_row.1 q c.number_at.ensures t (bool_says _ _ (rw c.if-row-eq17.true at q))
-    (c.take_bool.ensures (expr_room h _ t) (integer_at c.args.s.now c.args.places 1) (to_z-of_z {w = w64} (record { sfits = c.val_at-then-row-eq17.type_inv }) ∙ c.val_at-then-row-eq17.ensures))
+    expr_valued h _ _ _ c.requires.le_row.0 c.requires.le_row.1 q c.number_at.ensures t (bool_says _ _ (rw c.in-17.is at q))
+    (c.take_bool.ensures (expr_room h _ t) (integer_at c.args.s.now c.args.places 1) (to_z-of_z {w = w64} (record { sfits = c.val_at-in-17.type_inv }) ∙ c.val_at-in-17.ensures))
 
 pub put_plain-requires : goal.put_plain-requires
 put_plain-requires c =
     record { expr_room = expr_room c.requires.expr_held _ (sym c.is_next.ensures ∙ c.if-not-is_next.false); le_row = c.requires.le_row }
 
-pub returns : goal.returns
-returns c h i b e q =
+pub returns-in_default : goal.returns-in_default
+returns-in_default c h i b e q =
     let t = sym c.is_next.ensures ∙ c.if-not-is_next.false in
-    let p = plain_says _ _ (c.args.row - 10) (omega arith) (λ k. c.if-row-eq16.false (omega arith)) (λ k. c.if-row-eq17.false (omega arith))
+    let p = plain_says _ _ (c.args.row - 10) (omega arith) (λ k. omega arith) (λ k. omega arith)
     (form h _ _ _ c.requires.le_row.0 c.requires.le_row.1 q) in
     expr_plain h _ _ _ c.requires.le_row.0 c.requires.le_row.1 q c.number_at.ensures t p (c.put_plain.ensures (expr_room h _ t) e p.row)

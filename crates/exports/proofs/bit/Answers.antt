@@ -1,8 +1,0 @@
--- `exports::bit` meets its contract. Assumes nothing.
-use Rattle.exports.proofs.bit.Goals as goal
-
-pub returns-then-b : goal.returns-then-b
-returns-then-b c = rw c.if-b.true
-
-pub returns-else-b : goal.returns-else-b
-returns-else-b c = rw c.if-b.false

@@ -1,2 +1,0 @@
--- a number of 32 bits as an integer of 64
-pub mod Wide

@@ -1,2 +1,0 @@
--- the arms of a `match` on a head
-pub mod Arms
