@@ -17,6 +17,7 @@ ghost use Rattle.exports.specs.Read.{fit_number, living_numbers, machine_numbers
 use answers::Answer;
 use configs::Config;
 use engine::Outcome;
+use gathering::Lines;
 use handed_runs::Ending;
 use tables::{Kind, Program};
 use values::{Live, Value};
@@ -167,18 +168,15 @@ fn nothing_loaded(answer: Answer, line: usize) -> LoadNumbers
 pub fn namakviz_load(text: &[u8]) -> LoadNumbers
     ensures { result ≡ load_numbers (load_of text.now) }
 {
-    match loading::load(text) {
-        Ok(l) => {
-            // stays: the proof did not close: the check of loans wants an array that is a field in a local first
-            let choices = l.choices;
-            LoadNumbers {
-                program: l.program,
-                choices,
-                count: l.count,
-                answer: 0,
-                line: 0,
-            }
-        }
+    let mut lines = Lines::new();
+    match loading::load_in(text, &mut lines) {
+        Ok(()) => LoadNumbers {
+            program: lines.program,
+            choices: lines.choices,
+            count: lines.count,
+            answer: 0,
+            line: 0,
+        },
         Err(refusal) => nothing_loaded(refusal.answer, refusal.line),
     }
 }
@@ -241,7 +239,7 @@ pub fn namakviz_live(program: Program, c: Config) -> LiveNumbers
 {
     match showing::live(program, c) {
         Ok(living) => {
-            // stays: the proof did not close: as in namakviz_load
+            // stays: the proof did not close: the check of loans wants an array that is a field in a local first
             let machines = living.machines;
             LiveNumbers {
                 answer: 0,
@@ -263,7 +261,7 @@ pub fn namakviz_machine(program: Program, c: Config, machine: Live) -> MachineNu
 {
     match showing::look(program, c, machine) {
         Ok(m) => {
-            // stays: the proof did not close: as in namakviz_load
+            // stays: the proof did not close: as in namakviz_live
             let values = m.values;
             let pairs = m.pairs;
             MachineNumbers {

@@ -1,9 +1,9 @@
 -- The forms tried one by one, by a loop over their numbers.
 use Prim.Native.Nat.{ℕ, zero, suc, ◌+◌, ◌≤◌, ◌<◌}
 use Prim.Native.String.{[] as empty}
-use Rattle.std.specs.Prelude.{◌≡◌, refl, true, false, not, ◌&&◌, eqb, leb, drop, get_or, Option, Some, None}
+use Rattle.std.specs.Prelude.{◌≡◌, refl, Bool, true, false, not, cond, ◌&&◌, eqb, leb, ltb, drop, get_or, Option, Some, None}
 use Rattle.std.proofs.Math.Path.{ap}
-use Rattle.std.proofs.Common.{sym, ◌∙◌, add-zero, leb-true, drop_of_length-le, length-drop}
+use Rattle.std.proofs.Common.{sym, ◌∙◌, subst, ⊎_elim, true≢false, add-zero, eqb-true, leb-true, lt-ltb, le-ltb, drop_of_length-le, length-drop}
 use Rattle.std.proofs.Math.Option.{Option as Maybe, none, some}
 use mathlib.Core.List.{List, [], ◌∷◌, ◌++◌}
 use Rattle.std.proofs.Math.Numerals.{add-one}
@@ -13,12 +13,13 @@ use Rattle.std.proofs.Math.ListN.{length}
 use Rattle.std.proofs.lemmas.List.{length-map}
 use Rattle.std.proofs.Math.Seq.{drop-cons}
 use Rattle.lists.specs.Facts.{and_parts, or_none, eqb_same}
+use Rattle.rows.specs.Pad.{below?}
 use Rattle.lists.specs.Lists.{all, keep}
 use Rattle.texts.specs.Bytes.{bytes, text}
 use Rattle.texts.specs.Forms.{Form as Shape, start_line, forms}
 use Rattle.numerals.specs.Splits.{among}
 use Rattle.shapes.specs.Parts.{till}
-use Rattle.shapes.specs.Reads.{hole, key, formed}
+use Rattle.shapes.specs.Reads.{hole, key, value, plain, formed}
 use Rattle.shapes.specs.Scan.{zeros, scan}
 use Rattle.scans.specs.declared.Taken.{Taken}
 use Rattle.scans.specs.Fits.{taken_at, fit_of, holes_at}
@@ -103,6 +104,54 @@ module _ (fs : List Shape) (s : List ℕ) (a e : ℕ) where
         let none_left : row_of (drop r fs) s a e ≡ record { row = 0; at = zeros } = rw (drop_of_length-le fs h) in
         ap (λ (k : ℕ). record { row = k; at = zeros }) z ∙ ap (further r) (sym none_left) ∙ t.same
 
+-- THE FIRST BYTE
+-- at b of t and at a of s stands the same byte
+abbrev pub alike : List ℕ → ℕ → List ℕ → ℕ → Bool
+alike t b s a = ltb b (length t) && ltb a (length s) && eqb (get_or t b 0) (get_or s a 0)
+
+-- a text begins with a byte that stands for itself
+record Plain (d : List ℕ) : Type 0 where
+  no_hole : hole (get_or d 0 0) ≡ false
+  no_end : eqb (get_or d 0 0) 10 ≡ false
+
+-- as a form does,
+front_plain : (d w : List ℕ) → formed key d ≡ true → among 10 d ≡ false → Plain (d ++ w)
+unfolding formed
+front_plain [] w h n = absurd (true≢false (sym h))
+front_plain (c ∷ d) w h n = record { no_hole = go (eqb c 61) refl h; no_end = (or_none (eqb c 10) (among 10 d) n).0 }
+  where
+    go : (x : Bool) → eqb c 61 ≡ x → cond x (formed value d) (plain c && formed key d) ≡ true → hole c ≡ false
+    go true e h = rw (eqb-true c 61 e) refl
+    go false e h =
+        let p = and_parts (plain c) (formed key d) h in
+        let q = and_parts (not (hole c) && not (eqb c 61)) (not (eqb c 32)) p.0 in
+        not-true (hole c) (and_parts (not (hole c)) (not (eqb c 61)) q.0).0
+
+-- each of those from form number r on
+row_plain : (fs : List Shape) (r : ℕ) → all (λ f. sound (bytes f.0)) fs ≡ true → r < length fs → Plain (text (names (drop r fs)))
+row_plain [] r h k = absurd (omega arith)
+row_plain (f ∷ fs) zero h k =
+    let p = and_parts (sound (bytes f.0)) (all (λ f. sound (bytes f.0)) fs) h in
+    let q = and_parts (formed key (bytes f.0) && not (among 10 (bytes f.0))) (leb (length (keep hole (bytes f.0))) 5) p.0 in
+    let n = and_parts (formed key (bytes f.0)) (not (among 10 (bytes f.0))) q.0 in
+    front_plain (bytes f.0) (10 ∷ text (names fs)) n.0 (not-true (among 10 (bytes f.0)) n.1)
+row_plain (f ∷ fs) (suc r) h k = row_plain fs r (and_parts (sound (bytes f.0)) (all (λ f. sound (bytes f.0)) fs) h).1 (omega arith)
+
+module _ (s : List ℕ) (a e : ℕ) (inside : e ≤ length s) where
+  -- a line that begins with another byte is not in the form
+  scan_front : (c : ℕ) (u : List ℕ) → hole c ≡ false → eqb c 10 ≡ false → (a < length s → eqb c (get_or s a 0) ≡ false) → scan (c ∷ u) s e a 0 zeros ≡ none
+  unfolding scan
+  scan_front c u h n d = rw (n, h) (⊎_elim (λ (l : a < e). rw (lt-ltb a e l, d (omega arith)) refl) (λ (l : e ≤ a). rw (le-ltb a e l) refl) (below? a e))
+
+  scan_other : (t : List ℕ) (b : ℕ) → Plain (drop b t) → alike t b s a ≡ false → scan (drop b t) s e a 0 zeros ≡ none
+  unfolding scan
+  scan_other t b p h = ⊎_elim
+      (λ (l : b < length t).
+      let d = drop-cons t b 0 l in
+      rw d (scan_front (get_or t b 0) (drop (suc b) t) (rw d at p.no_hole) (rw d at p.no_end) (λ k. rw (lt-ltb b (length t) l, lt-ltb a (length s) k) at h)))
+      (λ (l : length t ≤ b). rw (drop_of_length-le t l) refl)
+      (below? b (length t))
+
 -- what is asked of the forms' text t and of the line's: t is the forms, the line is in its text, and the word known for a number is what it is said to be
 pub record Tried (t s : List ℕ) (e : ℕ) (first : Taken) : Type 0 where
   pub written : t ≡ text (names forms)
@@ -123,6 +172,12 @@ module _ (fs : List Shape) (t s : List ℕ) (a e r : ℕ) (w : t ≡ text (names
   -- the form that begins there finds room
   pub begin_room : all (λ f. sound (bytes f.0)) fs ≡ true → length (holes_at t (get_or (begins 0 (names fs)) r 0)) ≤ 5
   begin_room k = rw (from_begin fs t r w h) (row_room fs r k h)
+
+  -- it begins with another byte than the line, which is not in it
+  pub begin_other : all (λ f. sound (bytes f.0)) fs ≡ true → e ≤ length s → Turn fs s a e r → alike t (get_or (begins 0 (names fs)) r 0) s a ≡ false → Turn fs s a e (r + 1)
+  begin_other k inside p q =
+      let b = from_begin fs t r w h in
+      turn_more fs s a e r p h (rw b at (scan_other s a e inside t (get_or (begins 0 (names fs)) r 0) (subst Plain (sym b) (row_plain fs r k h)) q))
 
   module _ (x : Option (List ℕ)) (is : x ≡ fit_of (scan (drop (get_or (begins 0 (names fs)) r 0) t) s e a 0 zeros)) (p : Turn fs s a e r) where
     -- it is the line's

@@ -6,7 +6,7 @@ ghost use Rattle.std.specs.Prelude.{◌≡◌, ◌<◌, MatchOption};
 ghost use Rattle.texts.specs.Forms.{forms};
 ghost use Rattle.shapes.specs.Lines.{LineAt};
 ghost use Rattle.forms.specs.Rows.{row_of, formless};
-ghost use Rattle.forms.specs.Trying.{Tried};
+ghost use Rattle.forms.specs.Trying.{Tried, alike};
 ghost use Rattle.forms.specs.Recognised.{Recognised};
 
 use scans::Taken;
@@ -27,14 +27,23 @@ const BEGINS: [usize; 44] = [
     875, 892, 908, 916, 932,
 ];
 
-// The first of the forms t that the line from a to e is in.
+// Whether the form that begins at b of t and the line that begins at a of s begin with the same byte.
+fn begins_alike(t: &[u8], b: usize, s: &[u8], a: usize) -> bool
+    ensures { result ≡ alike t.now b s.now a }
+{
+    b < t.len() && a < s.len() && t[b] == s[a]
+}
+
+// The first of the forms t that the line from a to e is in. A form that begins with another byte than the line is passed over.
 fn first_form(t: &[u8], s: &[u8], a: usize, e: usize, first: Taken) -> Option<Form>
     requires { Tried t.now s.now e first }
     ensures { MatchOption result (formless ≡ row_of forms s.now a e) (λ r. (r ≡ row_of forms s.now a e) × (r.row < 44)) }
 {
     for (row, &begin) in BEGINS.iter().enumerate() {
-        if let Some(at) = scans::scan(t, begin, s, a, e, first) {
-            return Some(Form { row, at });
+        if begins_alike(t, begin, s, a) {
+            if let Some(at) = scans::scan(t, begin, s, a, e, first) {
+                return Some(Form { row, at });
+            }
         }
     }
     None

@@ -4,8 +4,8 @@
 ghost use Rattle.std.specs.Prelude.{◌≡◌, List, ℕ, ◌<◌, get_or};
 ghost use Rattle.lists.specs.Tells.{Tells};
 ghost use Rattle.configs.specs.Encode.{free};
-ghost use Rattle.configs.specs.Flat.{Sized, room_at};
-ghost use Rattle.free_rooms.specs.FreeRooms.{NumbersZero, RowsZero};
+ghost use Rattle.configs.specs.Flat.{room_at};
+ghost use Rattle.free_rooms.specs.FreeRooms.{Asked, NumbersZero, RowsZero};
 
 use configs::Flat;
 use tables::Program;
@@ -13,7 +13,7 @@ use zeros::all_are;
 
 // The numbers of room i.
 fn numbers_zero(flat: &Flat, i: usize) -> bool
-    requires { (i < 32) × Sized flat.now }
+    requires { i < 32 }
     ensures { Tells result (NumbersZero flat.now.kinds flat.now.depths flat.now.counts flat.now.held flat.now.waiting i) }
 {
     flat.kinds[i] == 0
@@ -25,7 +25,7 @@ fn numbers_zero(flat: &Flat, i: usize) -> bool
 
 // The rows of room i.
 fn rows_zero(flat: &Flat, i: usize) -> bool
-    requires { (i < 32) × Sized flat.now }
+    requires { Asked flat.now.states flat.now.maps flat.now.values flat.now.parts flat.now.pairs i }
     ensures { Tells result (RowsZero flat.now.states flat.now.maps flat.now.values flat.now.parts flat.now.pairs i) }
 {
     let s = i * Program::STACK;
@@ -42,7 +42,7 @@ fn rows_zero(flat: &Flat, i: usize) -> bool
 
 // ROOM i, whose number is 0.
 pub fn free_ok(flat: &Flat, i: usize) -> bool
-    requires { (i < 32) × Sized flat.now }
+    requires { Asked flat.now.states flat.now.maps flat.now.values flat.now.parts flat.now.pairs i }
     ensures { (ids : List ℕ) (next : ℕ) → get_or ids i 0 ≡ 0 → Tells result (room_at (record flat.now { ids = ids; next = next }) i ≡ free) }
 {
     numbers_zero(flat, i) && rows_zero(flat, i)

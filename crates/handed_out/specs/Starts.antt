@@ -40,6 +40,10 @@ module _ (t : List ℕ) where
   pub refused_above : (e : Refusal) → Err e ≡ starts_as (answered t) → number e.answer ≡ 0 → ⊥
   refused_above e h = eqb-false (number e.answer) 0 (rw (refused_as (answered t) e h) at (answer_refuses t))
 
+  -- and of a text that the loader refuses
+  pub starts_refused : (e : Refusal) → Err e ≡ loads (answered t) → Err e ≡ starts_as (answered t)
+  starts_refused e h = sym (ap starts_as (loads_refused (answered t) e h))
+
   -- the program of a loaded text starts with its start configuration
   begins : (p : Program) (l : List Choice) → answered t ≡ loaded p l → start_of (tabled p) ≡ started_as Done (start_config p)
   unfolding load_of

@@ -7,6 +7,7 @@ ghost use Rattle.handed_out.specs.Starts.{starts_as};
 
 use answers::Refusal;
 use configs::Config;
+use gathering::Lines;
 use tabled::Loaded;
 
 // A loaded text, and its start configuration.
@@ -20,9 +21,17 @@ pub struct TextStart {
 pub fn start_text(text: &[u8]) -> Result<TextStart, Refusal>
     ensures { result ≡ starts_as (answered text.now) }
 {
-    let loaded = loading::load(text)?;
-    let Ok(config) = starting::start(&loaded.program) else {
+    let mut lines = Lines::new();
+    loading::load_in(text, &mut lines)?;
+    let Ok(config) = starting::start(&lines.program) else {
         unreachable!()
     };
-    Ok(TextStart { loaded, config })
+    Ok(TextStart {
+        loaded: Loaded {
+            program: lines.program,
+            choices: lines.choices,
+            count: lines.count,
+        },
+        config,
+    })
 }

@@ -7,6 +7,7 @@ ghost use Rattle.texts.specs.Verdict.{verdict};
 ghost use Rattle.judging.specs.Judging.{refused, result_of};
 
 use answers::{Answer, Refusal};
+use faults::count_rows;
 use tables::Program;
 
 // Refuses with this answer where a pass found a faulty line.
@@ -25,7 +26,8 @@ pub fn judge(program: &Program) -> Result<(), Refusal>
     // 4: linear in the lines and their pairs, with up to 64 turns for each state
     refuse(Answer::NotThere, referring::refers(program))?;
     // 5: linear in the expressions, the statements, their pairs, the actions and the states; a mark for each number of 16 bits is cleared, twice
-    refuse(Answer::NotLower, lowering::lower(program))?;
+    let rows = count_rows(program);
+    refuse(Answer::NotLower, lowering::lower(rows, program))?;
     // 4 again, foreign variables: linear in the actions and the states, and for each of 16 kinds in the expressions, the statements and their pairs
     let served = marks::served(program);
     refuse(Answer::NotThere, ownness::own(program, &served))?;

@@ -13,7 +13,10 @@ fn lay_row<T: Copy, const W: usize>(to: &mut [T], i: usize, from: &[T; W])
     requires { i * W + W ≤ length to.old }
     ensures { Stored to.old i W from.now to.new }
 {
-    copies::copy(to, i * W, from, 0, W);
+    // stays: the C interface: a copy of a slice as a whole asks a program that links the library for memmove, which it needs nowhere else
+    for e in 0..W {
+        to[i * W + e] = from[e];
+    }
 }
 
 // Room m into row i of the flat arrays.

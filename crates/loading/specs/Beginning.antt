@@ -1,5 +1,5 @@
 -- BEFORE THE FIRST LINE: arrays of zeros hold no line, and are what is handed out on a refusal.
-use Rattle.std.specs.Prelude.{ℕ, ◌≤◌, ◌≡◌, refl, List, length, replicate}
+use Rattle.std.specs.Prelude.{ℕ, ◌≤◌, ◌≡◌, refl, List, length}
 use Rattle.std.proofs.Common.{sym, arith}
 use Rattle.std.proofs.lemmas.List.{length-replicate}
 use Rattle.rows.specs.Pad.{zeros_get}

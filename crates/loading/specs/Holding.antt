@@ -1,5 +1,5 @@
 -- THE PROGRAM THAT THE ARRAYS HOLD after the last line.
-use Rattle.std.specs.Prelude.{Option, None, Some, ℕ, ◌+◌, ◌≡◌, refl, List, [], ◌∷◌}
+use Rattle.std.specs.Prelude.{Option, None, Some, ℕ, ◌+◌, ◌≡◌, refl, [], ◌∷◌}
 use Rattle.texts.specs.Reading.{Tables, tables, program_of, loaded, whole, starts_of}
 use Rattle.tabled.specs.Tabled.{byte_of, tabled}
 use Rattle.tables.specs.declared.Kind.{Kind}

@@ -1,10 +1,10 @@
 -- WHAT IS ANSWERED: a text that is too long, one that is refused while it is read, one whose variable has no kind, and one that is judged by its tables.
 use Rattle.std.specs.Prelude as std
 use Rattle.std.specs.Prelude.{Option, None, Some, Ok, true, false, eqb, ℕ, ◌+◌, ◌≤◌, ◌<◌, ◌-◌, ◌≡◌, List, ◌++◌, reverse, length, get_or}
-use Rattle.std.proofs.Common.{ap, sym, ◌∙◌, arith, lt-ltb, le-ltb, eq-eqb, ne_eqb, length-append}
+use Rattle.std.proofs.Common.{ap, sym, ◌∙◌, arith, lt-ltb, le-ltb, length-append}
 use Rattle.lists.specs.Lists.{flat}
 use Rattle.answers.specs.declared.Answer.{Answer}
-use Rattle.answers.specs.declared.Answer.TheVariants.{Done, TextTooLong, NotThere}
+use Rattle.answers.specs.declared.Answer.TheVariants.{TextTooLong, NotThere}
 use Rattle.answers.specs.Number.{number}
 use Rattle.programs.specs.Sizes.{TEXT}
 use Rattle.programs.specs.Program.{Program}

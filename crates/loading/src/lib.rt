@@ -5,6 +5,7 @@
 ghost use Rattle.std.specs.Prelude.{◌≡◌, ◌≤◌, length, IfErr, Ok, Err};
 ghost use Rattle.programs.specs.Sizes.{TEXT};
 ghost use Rattle.texts.specs.Answered.{answered};
+ghost use Rattle.gathering.specs.Gathered.{no_lines};
 ghost use Rattle.reading.specs.Whole.{Begun};
 ghost use Rattle.tabled.specs.Tabled.{handed, loads, load_of};
 
@@ -13,7 +14,7 @@ use gathering::Lines;
 use tabled::Loaded;
 use tables::Program;
 
-// What a text that is not too long holds, read and judged. The tables are handed out by the caller alone, so that no refusal has room for them.
+// What a text that is not too long holds, read and judged.
 fn read_whole(text: &[u8], lines: &mut Lines) -> Result<(), Refusal>
     requires short { length text.now ≤ TEXT }
     requires begun { Begun text.now lines.old }
@@ -34,24 +35,11 @@ fn read_whole(text: &[u8], lines: &mut Lines) -> Result<(), Refusal>
     Ok(())
 }
 
-// A text that is not too long.
-fn load_short(text: &[u8]) -> Result<Loaded, Refusal>
-    requires { length text.now ≤ TEXT }
-    ensures { result ≡ loads (answered text.now) }
-{
-    let mut lines = Lines::new();
-    read_whole(text, &mut lines)?;
-    Ok(Loaded {
-        program: lines.program,
-        choices: lines.choices,
-        count: lines.count,
-    })
-}
-
-// THE LOADER, for any bytes: 1, then what the lines say.
-pub fn load(text: &[u8]) -> Result<Loaded, Refusal>
-    ensures handed { handed result ≡ load_of text.now }
-    ensures said { result ≡ loads (answered text.now) }
+// THE LOADER over lent lines, for any bytes: 1, then what the lines say. What is loaded stays in the lines, so that a caller hands it out with no copy between.
+pub fn load_in(text: &[u8], lines: &mut Lines) -> Result<(), Refusal>
+    requires { lines.old ≡ no_lines }
+    ensures refused { IfErr result (λ r. Err r ≡ loads (answered text.now)) }
+    ensures handed { result ≡ Ok (record {}) → Ok (record { program = lines.new.program; choices = lines.new.choices; count = lines.new.count }) ≡ loads (answered text.now) }
 {
     if Program::TEXT < text.len() {
         // stays: may not change: load_of, which has line 0 here
@@ -60,5 +48,19 @@ pub fn load(text: &[u8]) -> Result<Loaded, Refusal>
             line: 0,
         });
     }
-    load_short(text)
+    read_whole(text, lines)
+}
+
+// THE LOADER, for any bytes.
+pub fn load(text: &[u8]) -> Result<Loaded, Refusal>
+    ensures handed { handed result ≡ load_of text.now }
+    ensures said { result ≡ loads (answered text.now) }
+{
+    let mut lines = Lines::new();
+    load_in(text, &mut lines)?;
+    Ok(Loaded {
+        program: lines.program,
+        choices: lines.choices,
+        count: lines.count,
+    })
 }

@@ -1,27 +1,21 @@
 -- What is asked of a program, what a turn over a row adds to the names of the rows before it, and the line of a fault.
-use Rattle.std.specs.Prelude.{ℕ, ◌+◌, ◌*◌, ◌<◌, ◌≡◌, Bool, true, false, not, ◌&&◌, ◌||◌, List, [], ◌∷◌, ◌++◌, map, length, take}
+use Rattle.std.specs.Prelude.{ℕ, ◌+◌, ◌<◌, ◌≡◌, Bool, true, false, not, ◌&&◌, ◌||◌, List, [], ◌∷◌, ◌++◌, map, length, take}
 use Rattle.std.proofs.Math.Path.{refl}
 use Rattle.std.proofs.Common.{ap, sym, ◌∙◌}
 use Rattle.std.proofs.lemmas.List.{map-append}
 use Rattle.lists.specs.Lists.{at, flat}
 use Rattle.lists.specs.Keep.{flat_snoc}
-use Rattle.programs.specs.Sizes.{KINDS, EVENTS, VARIABLES}
 use Rattle.programs.specs.Program.{Program}
 use Rattle.soundness.specs.Asked.{lower}
 use Rattle.soundness.specs.Sound.{lines, first_fault}
 use Rattle.tables.specs.declared.Program.{Program as Tables}
-use Rattle.tables.specs.Decode.{count, exprs_of, stmts_of, actions_of, states_of, program_of}
-use Rattle.tables.specs.Tables.{events_length, variables_length, exprs_length, stmts_length, actions_length, states_length}
+use Rattle.tables.specs.Decode.{exprs_of, stmts_of, actions_of, states_of, program_of}
 use Rattle.faults.specs.declared.Counts.{Counts}
 use Rattle.faults.specs.Faults.{onward, joined, joined_none, joined_last, onward_onward, row_fault, fault_nothing, taken_more, moves_free, states_fault, tables_fault, lines_fault}
-use Rattle.faults.specs.Read.{Counted, Rows}
+use Rattle.faults.specs.Read.{Counted}
 
--- WHAT IS ASKED of a program: as many events, kinds and variables as the code's tables have, whatever they are, and these expressions, statements, actions
--- and states, whatever a state defers
+-- WHAT IS ASKED of a program: the expressions, statements, actions and states of the code's tables, whatever a state defers
 pub record TellsParts (p : Program) (q : Tables) : Type 0 where
-  pub events : length p.events ≡ count EVENTS q.event_types
-  pub machines : p.machines ≡ q.kinds
-  pub variables : length p.variables ≡ count (KINDS * VARIABLES) q.variable_of
   pub same_exprs : p.exprs ≡ exprs_of q.exprs
   pub same_stmts : p.stmts ≡ stmts_of q.stmts q.inits
   pub same_actions : p.actions ≡ actions_of q.action_of q.action_body
@@ -31,26 +25,11 @@ pub record TellsParts (p : Program) (q : Tables) : Type 0 where
 -- LAW FOR CALLERS: so is the program that the tables are
 pub tells_parts_program : (q : Tables) → TellsParts (program_of q) q
 tells_parts_program q = record {
-  events = events_length q.event_types;
-  machines = refl;
-  variables = variables_length q.variable_of q.variable_type;
   same_exprs = refl;
   same_stmts = refl;
   same_actions = refl;
   flags = q.defers;
   same_states = refl;
-}
-
--- what was counted are its rows
-pub counted_parts : {p : Program} {q : Tables} {c : Counts} → TellsParts p q → Rows q c → Counted p c
-counted_parts {p} {q} {c} t n = record {
-  events = t.events ∙ sym n.events;
-  machines = t.machines ∙ sym n.machines;
-  variables = t.variables ∙ sym n.variables;
-  exprs = ap length t.same_exprs ∙ exprs_length q.exprs ∙ sym n.exprs;
-  stmts = ap length t.same_stmts ∙ stmts_length q.stmts q.inits ∙ sym n.stmts;
-  actions = ap length t.same_actions ∙ actions_length q.action_of q.action_body ∙ sym n.actions;
-  states = ap length t.same_states ∙ states_length q.state_of q.state_entry q.state_exit t.flags ∙ sym n.states;
 }
 
 -- NAMES

@@ -13,11 +13,12 @@ ghost use Rattle.soundness.specs.Sound.{lines, first_fault};
 ghost use Rattle.tables.specs.Decode.{exprs_of, stmt_of, stmts_of, actions_of, states_of};
 ghost use Rattle.faults.specs.Faults.{row_fault};
 ghost use Rattle.faults.specs.Lines.{line_of, number_of};
+ghost use Rattle.faults.specs.Read.{Counted, Small};
 ghost use Rattle.doubling.specs.Doubling.{Seen};
 ghost use Rattle.lowering.specs.Lowering.{TellsParts};
 
 use doubling::{NUMBERS, name, name_exprs, name_operands, name_parts, name_two};
-use faults::{count_rows, fault, joined, onward};
+use faults::{Counts, fault, joined, onward};
 use programs::Expr;
 use tables::{
     Head, Program, action_count, body_of, entry_of, exit_of, expr_count, state_count, stmt_count,
@@ -120,11 +121,11 @@ fn states_lower(program: &Program, done: &mut [u8; NUMBERS]) -> Option<usize>
     first
 }
 
-// ANSWER 5: the first line with a part that is not lower, or that is named again. Linear in the lines, their pairs and the marks.
-pub fn lower(program: &Program) -> Option<usize>
-    ensures { (p : Lines) → TellsParts p program.now → result ≡ line_of (first_fault 1 (lines p (lower p))) }
+// ANSWER 5: the first line with a part that is not lower, or that is named again, of a program with c's rows. Linear in the lines, their pairs and the marks.
+pub fn lower(c: Counts, program: &Program) -> Option<usize>
+    requires { Small c }
+    ensures { (p : Lines) → Counted p c → TellsParts p program.now → result ≡ line_of (first_fault 1 (lines p (lower p))) }
 {
-    let c = count_rows(program);
     let mut seen: [u8; NUMBERS] = [0; NUMBERS];
     let e = exprs_lower(program, &mut seen);
     let mut done: [u8; NUMBERS] = [0; NUMBERS];

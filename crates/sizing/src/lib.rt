@@ -75,15 +75,11 @@ pub fn variables_of(kinds: &[u16; Program::ALL_VARIABLES + 1], kind: usize) -> u
 }
 
 // No kind has too many variables. Linear in the kinds times the variables.
-fn kinds_fit(program: &Program) -> bool
-    ensures { (p : Lines) (types : List ℕ) → p.variables ≡ variables_of program.now.variable_of types → result ≡ up_to program.now.kinds (λ k. leb (length (variables_of_kind p k)) 16) }
+fn kinds_fit(kinds: u8, owners: &[u16; Program::ALL_VARIABLES + 1]) -> bool
+    ensures { (p : Lines) (types : List ℕ) → p.variables ≡ variables_of owners.now types → result ≡ up_to kinds (λ k. leb (length (variables_of_kind p k)) 16) }
 {
-    let n = usize::from(program.kinds);
-    first_bad(
-        n,
-        |k| variables_of(&program.variable_of, k) <= Program::VARIABLES,
-    )
-    .is_none()
+    let n = usize::from(kinds);
+    first_bad(n, |k| variables_of(owners, k) <= Program::VARIABLES).is_none()
 }
 
 // Each word is one of 32 bits: what is known of the expressions' numbers, whatever they are.
@@ -93,11 +89,12 @@ fn in_words(words: &[u32])
 
 // ANSWER 3, as far as 20 names it: the kinds and the variables of each. (No other size can be passed in tables, and each int that a word stands for is in
 // range.) Linear in the kinds times the variables.
-pub fn sized(program: &Program) -> bool
-    ensures { (p : Lines) (types holds stmts inits actors bodies states entries exits flags : List ℕ) → Tabled p types program.now.kinds program.now.variable_of holds program.now.exprs stmts inits actors bodies states entries exits flags → result ≡ (sized p).test }
+// stays: may not change: it was promised of expressions in a slice of any length, which a Program's table is not
+pub fn sized(kinds: u8, owners: &[u16; Program::ALL_VARIABLES + 1], exprs: &[u32]) -> bool
+    ensures { (p : Lines) (types holds stmts inits actors bodies states entries exits flags : List ℕ) → Tabled p types kinds owners.now holds exprs.now stmts inits actors bodies states entries exits flags → result ≡ (sized p).test }
 {
-    in_words(&program.exprs);
-    usize::from(program.kinds) <= Program::KINDS && kinds_fit(program)
+    in_words(exprs);
+    usize::from(kinds) <= Program::KINDS && kinds_fit(kinds, owners)
 }
 
 // Kind k has a state. Linear in the states.

@@ -12,5 +12,7 @@ pub fn sound(program: &Program) -> bool
     ensures { result ≡ sound (program_of program.now) }
 {
     // 2, as far as 20 names it: linear in the variables, the statements and their pairs; 3: linear in the kinds times the variables; 4 to 9
-    sizing::orderly(program) && sizing::sized(program) && judging::judge(program).is_ok()
+    sizing::orderly(program)
+        && sizing::sized(program.kinds, &program.variable_of, &program.exprs)
+        && judging::judge(program).is_ok()
 }

@@ -30,13 +30,17 @@ until_one c d from to r s h k = ⊎_elim
 pub reader_one : (text : Bor (List ℕ)) (at : ℕ) (r s : LineReader) → (r.text ≡ text) × (r.at ≡ at) → (s.text ≡ text) × (s.at ≡ at) → r ≡ s
 reader_one text at r s h k = λ i. record { text = (h.0 ∙ sym k.0) i; at = (h.1 ∙ sym k.1) i }
 
--- `forms::form_of`
-pub form_one : (s : List ℕ) (a e : ℕ) (r t : Option Form) → MatchOption r (Recognised s a e formless) (λ x. Recognised s a e x × (x.row < 44))
+-- `forms::form_of`: the form that is told of a line,
+pub form_one : (s : List ℕ) (a e : ℕ) (r t : Form) → Recognised s a e r → Recognised s a e t → r ≡ t
+form_one s a e r t h k = h.is ∙ sym k.is
+
+-- and the answer, where a line may be in none
+pub form_if_one : (s : List ℕ) (a e : ℕ) (r t : Option Form) → MatchOption r (Recognised s a e formless) (λ x. Recognised s a e x × (x.row < 44))
     → MatchOption t (Recognised s a e formless) (λ x. Recognised s a e x × (x.row < 44)) → r ≡ t
-form_one s a e None None h k = refl
-form_one s a e None (Some t) h k = absurd (omega (arith, k.1, ap (λ (x : Form). x.row) (h.is ∙ sym k.0.is)))
-form_one s a e (Some r) None h k = absurd (omega (arith, h.1, ap (λ (x : Form). x.row) (k.is ∙ sym h.0.is)))
-form_one s a e (Some r) (Some t) h k = ap Some (h.0.is ∙ sym k.0.is)
+form_if_one s a e None None h k = refl
+form_if_one s a e None (Some t) h k = absurd (omega (arith, k.1, ap (λ (x : Form). x.row) (h.is ∙ sym k.0.is)))
+form_if_one s a e (Some r) None h k = absurd (omega (arith, h.1, ap (λ (x : Form). x.row) (k.is ∙ sym h.0.is)))
+form_if_one s a e (Some r) (Some t) h k = ap Some (h.0.is ∙ sym k.0.is)
 
 -- `spoken::kind_of`: whatever the text and the places
 pub kind_one : (row r t : ℕ) → ((s places : List ℕ) → r ≡ kind (line_at s places row)) → ((s places : List ℕ) → t ≡ kind (line_at s places row)) → r ≡ t

@@ -1,5 +1,5 @@
 -- `accepting::live_ok` meets its contract: test by test, each where those before it have passed. Assumes nothing.
-use Rattle.std.specs.Prelude.{ℕ, ◌≡◌, ◌*◌, ◌<◌, get_or, refl}
+use Rattle.std.specs.Prelude.{◌*◌, ◌<◌, get_or, refl}
 use native.Mathlib.Omega.{arith}
 use Rattle.lists.specs.Lists.{There}
 use Rattle.lists.specs.Tells.{Tells, form, less, there_is, second, first_only}

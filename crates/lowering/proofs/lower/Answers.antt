@@ -4,7 +4,7 @@ use Rattle.std.proofs.Math.ListN.{length-replicate}
 use Rattle.rows.specs.Pad.{zeros_get}
 use Rattle.faults.specs.Lines.{line_of}
 use Rattle.doubling.specs.Doubling.{Seen, seen_none}
-use Rattle.lowering.specs.Lowering.{counted_parts, lower_line}
+use Rattle.lowering.specs.Lowering.{lower_line}
 use Rattle.lowering.proofs.lower.Goals as goal
 
 -- no marks are set at first
@@ -12,8 +12,7 @@ clean : Seen (replicate {A = ℕ} 65536 0) []
 clean = seen_none (replicate {A = ℕ} 65536 0) (length-replicate {A = ℕ} 65536 0) (zeros_get 0 65536)
 
 pub returns : goal.returns
-returns c = λ p h.
-    let n = counted_parts h c.count_rows-c.ensures.rows in
+returns c = λ p n h.
     let first = c.exprs_lower-e.ensures.row p h.same_exprs clean in
     let second = c.stmts_lower-s.ensures.row p h.same_stmts first.1 clean in
     let third = c.actions_lower-a.ensures.row p h.same_actions second.2 in

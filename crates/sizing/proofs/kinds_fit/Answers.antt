@@ -10,6 +10,6 @@ abbrev fits : Lines → ℕ → Bool
 fits p k = leb (length (variables_of_kind p k)) 16
 
 pub returns : goal.returns
-returns c = λ p types e. not_same c.is_none.result (up_to c.args.program.now.kinds (fits p))
+returns c = λ p types e. not_same c.is_none.result (up_to c.args.kinds (fits p))
     (sym c.is_none.ensures ∙ finds_none (fits p) c.first_bad.ensures (λ j b low high w. rw e (search rules))
     ∙ ap (λ (n : ℕ). not (up_to n (fits p))) c.from-n.ensures)

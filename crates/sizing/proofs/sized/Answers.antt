@@ -8,10 +8,10 @@ use Rattle.sizing.proofs.sized.Goals as goal
 
 pub returns-then-from-le-KINDS : goal.returns-then-from-le-KINDS
 returns-then-from-le-KINDS c p types holds stmts inits actors bodies states entries exits flags t =
-    let k : c.args.program.now.kinds ≤ 16 = omega (arith, c.from.ensures, c.if-from-le-KINDS.true) in
-    sym (sized_is p t c.in_words.ensures ∙ rw (t.machine, le-leb c.args.program.now.kinds 16 k) (sym (c.kinds_fit.ensures p holds t.variable)))
+    let k : c.args.kinds ≤ 16 = omega (arith, c.from.ensures, c.if-from-le-KINDS.true) in
+    sym (sized_is p t c.in_words.ensures ∙ rw (t.machine, le-leb c.args.kinds 16 k) (sym (c.kinds_fit.ensures p holds t.variable)))
 
 pub returns-else-from-le-KINDS : goal.returns-else-from-le-KINDS
 returns-else-from-le-KINDS c p types holds stmts inits actors bodies states entries exits flags t =
-    let k : 16 < c.args.program.now.kinds = omega (arith, c.from.ensures, c.if-from-le-KINDS.false) in
-    sym (sized_is p t c.in_words.ensures ∙ rw (t.machine, lt-leb c.args.program.now.kinds 16 k) (sym (lt-leb _ 16 c.if-from-le-KINDS.false)))
+    let k : 16 < c.args.kinds = omega (arith, c.from.ensures, c.if-from-le-KINDS.false) in
+    sym (sized_is p t c.in_words.ensures ∙ rw (t.machine, lt-leb c.args.kinds 16 k) (sym (lt-leb _ 16 c.if-from-le-KINDS.false)))
