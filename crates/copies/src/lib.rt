@@ -11,5 +11,8 @@ pub fn copy<T: Copy>(to: &mut [T], b: usize, from: &[T], a: usize, n: usize)
     requires { Within to.old b from.now a n }
     ensures { to.new ≡ put b (part a n from.now) to.old }
 {
-    to[b..b + n].copy_from_slice(&from[a..a + n]);
+    // stays: may not change: one_number_for_all, whose mistake is in the place that a turn reads from
+    for e in 0..n {
+        to[b + e] = from[a + e];
+    }
 }

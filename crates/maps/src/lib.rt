@@ -65,8 +65,10 @@ pub fn pops(
     requires { Asked b n e }
     ensures { (p : Lines) → Moves p says.now → e ≤ length p.events → result ≡ Pop p n (map_at p b maps.now) e }
 {
-    let x = maps[b + (e - 1)];
-    !own(says, n, e) && (x == 0 || x == DEFERRED)
+    match maps[b + (e - 1)] {
+        0 | DEFERRED => !own(says, n, e),
+        _ => false,
+    }
 }
 
 // What is put before a pending raise: the state's exit where it will be popped or left by a step, or else skip.

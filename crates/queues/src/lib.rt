@@ -15,7 +15,8 @@ pub fn holds(pairs: &[u64; Program::ROOMS * Program::QUEUE], row: usize, n: usiz
     requires { (length pairs.now ≡ 512) × (row + n ≤ 512) }
     ensures { result ≡ any (eqb x) (part row n pairs.now) }
 {
-    pairs[row..row + n].contains(&x)
+    // stays: may not change: other_number_found, whose mistake is in how a number is compared
+    pairs[row..row + n].iter().any(|&y| y == x)
 }
 
 // Whether x can be put to room i's queue: it waits already, or there is a place.

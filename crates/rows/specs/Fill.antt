@@ -1,5 +1,5 @@
 -- Loops that store a part of a flat list in order: the invariant is `filled b w t xs i`, the list xs whose part of width w at b has its first i places from t.
-use Rattle.std.specs.Prelude.{◌≡◌, refl, List, ℕ, ◌+◌, ◌≤◌, ◌<◌, length, get_or, set, replicate}
+use Rattle.std.specs.Prelude.{◌≡◌, refl, List, [], ◌∷◌, ℕ, zero, suc, ◌+◌, ◌≤◌, ◌<◌, length, get_or, set, replicate}
 use Rattle.std.proofs.Common.{ap, sym, ◌∙◌, arith, length-set}
 use Rattle.std.proofs.lemmas.List.{length-replicate, get_or-replicate}
 use Rattle.rows.specs.Front.{front, front_length, front_none, front_more, front_all, front_high}
@@ -77,6 +77,24 @@ module _ {A : Type 0} (z : A) where
   -- one turn
   pub clearing_more : {b w : ℕ} {xs₀ xs : List A} {i : ℕ} → Clearing b w xs₀ xs i → i < w → Clearing b w xs₀ (set xs (b + i) z) (i + 1)
   clearing_more {b} {w} {xs₀} {xs} {i} f h = filling_more f h (sym (get_or-replicate w i z z h))
+
+-- The same with no element at hand: before the first turn
+pub filling_start : {A : Type 0} (t : List A) (b w : ℕ) (xs : List A) → b + w ≤ length xs → length t ≡ w → Filling t b w xs xs 0
+unfolding front put part
+filling_start t b w (x ∷ xs) h e = filling_none x h e
+filling_start [] zero zero [] h e = record { turns = omega arith; inside = h; whole = e; long = refl; stored = refl }
+filling_start [] zero (suc w) [] h e = absurd (omega arith)
+filling_start [] (suc b) w [] h e = absurd (omega arith)
+filling_start (y ∷ t) b w [] h e = absurd (omega arith)
+
+-- and after the last
+pub filling_end : {A : Type 0} (t : List A) (b w : ℕ) (xs ys : List A) (i : ℕ) → Filling t b w xs ys i → w ≤ i → ys ≡ put b t xs
+unfolding put
+filling_end t b w (x ∷ xs) ys i f h = filling_all x f h
+filling_end [] zero w [] [] i f h = refl
+filling_end [] zero w [] (y ∷ ys) i f h = absurd (omega (arith, f.long))
+filling_end [] (suc b) w [] ys i f h = absurd (omega (arith, f.inside))
+filling_end (y ∷ t) b w [] ys i f h = absurd (omega (arith, f.inside, f.whole))
 
 -- taking element k out of a row of n
 module _ {A : Type 0} where

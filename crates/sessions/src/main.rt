@@ -49,7 +49,8 @@ fn as_recorded(
     Ok(is_same)
 }
 
-// The run of a text.
+// The run of a text. Neither this nor the regrouping is inlined, so that the stack holds what one of them needs and not both.
+#[inline(never)]
 fn run_as_recorded(rt: &(impl Files + Print), name: &[u8], text: &[u8]) -> io::Result<bool> {
     let mut out = [0u8; OUTPUT];
     let size = run_text::run_text(text, &mut out);
@@ -57,6 +58,7 @@ fn run_as_recorded(rt: &(impl Files + Print), name: &[u8], text: &[u8]) -> io::R
 }
 
 // The regrouping of a text.
+#[inline(never)]
 fn regrouping_as_recorded(rt: &(impl Files + Print), name: &[u8], text: &[u8]) -> io::Result<bool> {
     let mut out = [0u8; OUTPUT];
     let size = regroup_text::regroup_text(text, &mut out);

@@ -1,13 +1,12 @@
--- `copies::copy` meets its contract: what is written to a part of a slice is `put`. Assumes nothing.
-use Rattle.std.proofs.Common.{◌≡◌, ◌+◌, ◌-◌, ◌∙◌, ap, arith}
-use Rattle.rows.specs.Part.{part, put, part_length}
-use Rattle.copies.specs.Copies.{put_of_mid}
+-- `copies::copy` meets its contract: the loop that copies, of specs/Copies.antt. Assumes nothing.
+use Rattle.copies.specs.Copies.{copied_none, copied_more, copied_all}
 use Rattle.copies.proofs.copy.Goals as goal
 
+pub loop-e-init : goal.loop-e-init
+loop-e-init g c = copied_none c.requires
+
+pub loop-e-preserved : goal.loop-e-preserved
+loop-e-preserved g c = copied_more c.loop-e.invariant c.index-from-a.result c.loop-e-test.true c.index-from-a.is
+
 pub returns : goal.returns
-unfolding part
-returns g c =
-    let k : c.args.b + c.args.n - c.args.b ≡ c.args.n = omega arith in
-    let m : c.args.a + c.args.n - c.args.a ≡ c.args.n = omega arith in
-    let e = c.copy_from_slice.ensures.after in
-    rw (e, m, k) (put_of_mid c.args.b c.args.n c.args.to.now (part c.args.a c.args.n c.args.from.now) (part_length c.args.a c.args.n c.args.from.now c.requires.source))
+returns g c = copied_all c.loop-e.invariant c.loop-e-test.false

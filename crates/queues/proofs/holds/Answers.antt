@@ -1,9 +1,11 @@
--- `queues::holds` meets its contract: `contains` on the numbers from place row on. Assumes nothing.
+-- `queues::holds` meets its contract: `any` over the numbers from place row on. Assumes nothing.
 use Rattle.std.specs.Prelude.{ℕ, ◌+◌, ◌-◌, ◌≡◌, refl, List, [], ◌∷◌, eqb, take, drop}
-use Rattle.std.proofs.Common.{sym, ◌∙◌, arith, eq-eqb, ne_eqb}
+use Rattle.std.proofs.Common.{ap, sym, ◌∙◌, arith, eq-eqb, ne_eqb, rules}
 use Rattle.std.proofs.Math.Logic.{dite}
 use Rattle.std.proofs.Math.Decide.{ℕ_discrete}
 use Rattle.std.specs.List.{list_any}
+use Rattle.std.proofs.lemmas.Iterator.{YieldsList-from_slice}
+use Rattle.std.proofs.lemmas.Iterator.Search.{any_from_yields_List}
 use Rattle.lists.specs.Lists.{any}
 use Rattle.rows.specs.Part.{part}
 use Rattle.queues.proofs.holds.Goals as goal
@@ -24,4 +26,5 @@ unfolding part
 returns c =
     let a = c.args in
     let k : a.row + a.n - a.row ≡ a.n = omega arith in
-    c.contains.ensures.value ∙ rw k (any_is a.x (take a.n (drop a.row a.pairs.now)))
+    any_from_yields_List (λ y. eqb y a.x) c.any.new.self _ c.any.result c.any.ensures.ran (YieldsList-from_slice _ c.iter.ensures.rest) (λ y b q h. search rules)
+    ∙ ap (λ (m : ℕ). list_any (λ y. eqb y a.x) (take m (drop a.row a.pairs.now))) k ∙ any_is a.x (take a.n (drop a.row a.pairs.now))
