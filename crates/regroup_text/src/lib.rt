@@ -2,7 +2,9 @@
 // crates/outputs.
 #![tactic(auto)]
 
-ghost use Rattle.std.specs.Prelude.{◌≡◌, length};
+ghost use Rattle.std.specs.Prelude.{◌≡◌, List, ℕ, Ok, length};
+ghost use Rattle.texts.specs.Answered.{answered};
+ghost use Rattle.handed_out.specs.Starts.{starts_as};
 ghost use Rattle.outputs.specs.Programs.{regroup_program};
 ghost use Rattle.handed_runs.specs.HandedRuns.{fronted};
 
@@ -11,22 +13,29 @@ use handed_out::TextStart;
 use tables::Program;
 use telling::OUTPUT;
 
-// What the regroup program writes of any bytes, from the front of the buffer on; and how many bytes that is.
-pub fn regroup_text(text: &[u8], out: &mut [u8; OUTPUT]) -> usize
-    ensures { (result ≡ length (regroup_program text.now)) × (out.new ≡ fronted (regroup_program text.now) out.old) }
+// What it writes of a text that is loaded and started. Not inlined, so that what a regrouping needs of the stack is not there while a text is loaded.
+#[inline(never)]
+fn regroup_started(start: &TextStart, out: &mut [u8; OUTPUT]) -> usize
+    requires { (text : List ℕ) × (Ok start.now ≡ starts_as (answered text)) }
+    ensures { (text : List ℕ) → Ok start.now ≡ starts_as (answered text) → (result ≡ length (regroup_program text)) × (out.new ≡ fronted (regroup_program text) out.old) }
 {
-    let TextStart { loaded, config } = match handed_out::start_text(text) {
-        Ok(start) => start,
-        Err(refusal) => {
-            return output_lines::write_refusal(out, 0, refusal.answer, refusal.line);
-        }
-    };
+    let loaded = &start.loaded;
     let choices = &loaded.choices[..loaded.count];
     let mut list: [u32; Program::CHOICES] = [0; Program::CHOICES];
-    if let Err(answer) = grouping::regroup(loaded.program, config, choices, &mut list) {
+    if let Err(answer) = grouping::regroup(loaded.program, start.config, choices, &mut list) {
         return output_lines::write_answer(out, 0, answer);
     }
     let regrouped = &list[..loaded.count];
     let place = telling::tell_choices(out, 0, regrouped);
     output_lines::write_answer(out, place, Answer::Done)
+}
+
+// What the regroup program writes of any bytes, from the front of the buffer on; and how many bytes that is.
+pub fn regroup_text(text: &[u8], out: &mut [u8; OUTPUT]) -> usize
+    ensures { (result ≡ length (regroup_program text.now)) × (out.new ≡ fronted (regroup_program text.now) out.old) }
+{
+    match &handed_out::start_text(text) {
+        Ok(start) => regroup_started(start, out),
+        Err(refusal) => output_lines::write_refusal(out, 0, refusal.answer, refusal.line),
+    }
 }

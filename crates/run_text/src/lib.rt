@@ -2,7 +2,9 @@
 // crates/outputs.
 #![tactic(auto)]
 
-ghost use Rattle.std.specs.Prelude.{◌≡◌, length};
+ghost use Rattle.std.specs.Prelude.{◌≡◌, List, ℕ, Ok, length};
+ghost use Rattle.texts.specs.Answered.{answered};
+ghost use Rattle.handed_out.specs.Starts.{starts_as};
 ghost use Rattle.outputs.specs.Programs.{run_program};
 ghost use Rattle.handed_runs.specs.HandedRuns.{fronted};
 
@@ -10,22 +12,29 @@ use handed_out::TextStart;
 use tables::Program;
 use telling::OUTPUT;
 
-// What the run program writes of any bytes, from the front of the buffer on; and how many bytes that is.
-pub fn run_text(text: &[u8], out: &mut [u8; OUTPUT]) -> usize
-    ensures { (result ≡ length (run_program text.now)) × (out.new ≡ fronted (run_program text.now) out.old) }
+// What it writes of a text that is loaded and started. Not inlined, so that what a run needs of the stack is not there while a text is loaded.
+#[inline(never)]
+fn run_started(start: &TextStart, out: &mut [u8; OUTPUT]) -> usize
+    requires { (text : List ℕ) × (Ok start.now ≡ starts_as (answered text)) }
+    ensures { (text : List ℕ) → Ok start.now ≡ starts_as (answered text) → (result ≡ length (run_program text)) × (out.new ≡ fronted (run_program text) out.old) }
 {
-    let TextStart { loaded, config } = match handed_out::start_text(text) {
-        Ok(start) => start,
-        Err(refusal) => {
-            return output_lines::write_refusal(out, 0, refusal.answer, refusal.line);
-        }
-    };
+    let loaded = &start.loaded;
     let choices = &loaded.choices[..loaded.count];
     let mut rules: [u8; Program::CHOICES] = [0; Program::CHOICES];
-    let ran = running::run(loaded.program, config, choices, &mut rules);
+    let ran = running::run_from(&loaded.program, &start.config, choices, &mut rules);
     let end = ran.end;
     let taken = &rules[..end.steps];
     let place = telling::tell_steps(out, 0, choices, taken);
     let live = living::live_machines(ran.config);
     output_lines::write_ending(out, place, end.answer, end.steps, live)
+}
+
+// What the run program writes of any bytes, from the front of the buffer on; and how many bytes that is.
+pub fn run_text(text: &[u8], out: &mut [u8; OUTPUT]) -> usize
+    ensures { (result ≡ length (run_program text.now)) × (out.new ≡ fronted (run_program text.now) out.old) }
+{
+    match &handed_out::start_text(text) {
+        Ok(start) => run_started(start, out),
+        Err(refusal) => output_lines::write_refusal(out, 0, refusal.answer, refusal.line),
+    }
 }
