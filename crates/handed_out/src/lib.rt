@@ -17,7 +17,8 @@ pub struct TextStart {
     pub config: Config,
 }
 
-// A text, loaded and started: a program that is loaded is sound, so that it starts.
+// A text, loaded and started: a program that is loaded is sound, so that it starts. Not inlined, so that what loading needs of the stack is gone when it is run.
+#[inline(never)]
 pub fn start_text(text: &[u8]) -> Result<TextStart, Refusal>
     ensures { result ≡ starts_as (answered text.now) }
 {

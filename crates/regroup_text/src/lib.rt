@@ -34,7 +34,8 @@ fn regroup_started(start: &TextStart, out: &mut [u8; OUTPUT]) -> usize
 pub fn regroup_text(text: &[u8], out: &mut [u8; OUTPUT]) -> usize
     ensures { (result ≡ length (regroup_program text.now)) × (out.new ≡ fronted (regroup_program text.now) out.old) }
 {
-    match &handed_out::start_text(text) {
+    let started = handed_out::start_text(text);
+    match &started {
         Ok(start) => regroup_started(start, out),
         Err(refusal) => output_lines::write_refusal(out, 0, refusal.answer, refusal.line),
     }

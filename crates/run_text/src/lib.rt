@@ -33,7 +33,8 @@ fn run_started(start: &TextStart, out: &mut [u8; OUTPUT]) -> usize
 pub fn run_text(text: &[u8], out: &mut [u8; OUTPUT]) -> usize
     ensures { (result ≡ length (run_program text.now)) × (out.new ≡ fronted (run_program text.now) out.old) }
 {
-    match &handed_out::start_text(text) {
+    let started = handed_out::start_text(text);
+    match &started {
         Ok(start) => run_started(start, out),
         Err(refusal) => output_lines::write_refusal(out, 0, refusal.answer, refusal.line),
     }
