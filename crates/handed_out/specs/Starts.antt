@@ -12,6 +12,7 @@ use Rattle.rules.specs.Step.{start_config}
 use Rattle.texts.specs.Reading.{Result, loaded, refused}
 use Rattle.texts.specs.Answered.{answered}
 use Rattle.outputs.specs.Refusals.{answer_refuses}
+use Rattle.gathering.specs.declared.Lines.{Lines}
 use Rattle.configs.specs.declared.Config.{Config}
 use Rattle.configs.specs.Encode.{written}
 use Rattle.tabled.specs.declared.Loaded.{Loaded as Text}
@@ -24,6 +25,10 @@ use Rattle.handed_out.specs.declared.TextStart.{TextStart}
 abbrev pub starts_as : Result → std.Result TextStart Refusal
 starts_as (loaded p l) = Ok (record { loaded = record { program = tabled p; choices = choice_table l; count = length l }; config = written (start_config p) })
 starts_as (refused a k) = Err (record { answer = a; line = k })
+
+-- what lines hold that a text was loaded into, with what it starts with
+abbrev pub started : Lines → Config → TextStart
+started l c = record { loaded = record { program = l.program; choices = l.choices; count = l.count }; config = c }
 
 -- A REFUSAL is that of the text
 refused_as : (r : Result) (e : Refusal) → Err e ≡ starts_as r → r ≡ refused e.answer e.line

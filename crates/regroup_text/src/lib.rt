@@ -4,28 +4,28 @@
 
 ghost use Rattle.std.specs.Prelude.{◌≡◌, List, ℕ, Ok, length};
 ghost use Rattle.texts.specs.Answered.{answered};
-ghost use Rattle.handed_out.specs.Starts.{starts_as};
+ghost use Rattle.handed_out.specs.Starts.{started, starts_as};
 ghost use Rattle.outputs.specs.Programs.{regroup_program};
 ghost use Rattle.handed_runs.specs.HandedRuns.{fronted};
 
 use answers::Answer;
-use handed_out::TextStart;
+use configs::Config;
+use gathering::Lines;
 use tables::Program;
 use telling::OUTPUT;
 
 // What it writes of a text that is loaded and started. Not inlined, so that what a regrouping needs of the stack is not there while a text is loaded.
 #[inline(never)]
-fn regroup_started(start: &TextStart, out: &mut [u8; OUTPUT]) -> usize
-    requires { (text : List ℕ) × (Ok start.now ≡ starts_as (answered text)) }
-    ensures { (text : List ℕ) → Ok start.now ≡ starts_as (answered text) → (result ≡ length (regroup_program text)) × (out.new ≡ fronted (regroup_program text) out.old) }
+fn regroup_started(lines: &Lines, config: &Config, out: &mut [u8; OUTPUT]) -> usize
+    requires { (text : List ℕ) × (Ok (started lines.now config.now) ≡ starts_as (answered text)) }
+    ensures { (text : List ℕ) → Ok (started lines.now config.now) ≡ starts_as (answered text) → (result ≡ length (regroup_program text)) × (out.new ≡ fronted (regroup_program text) out.old) }
 {
-    let loaded = &start.loaded;
-    let choices = &loaded.choices[..loaded.count];
+    let choices = &lines.choices[..lines.count];
     let mut list: [u32; Program::CHOICES] = [0; Program::CHOICES];
-    if let Err(answer) = grouping::regroup(loaded.program, start.config, choices, &mut list) {
+    if let Err(answer) = grouping::regroup(lines.program, *config, choices, &mut list) {
         return output_lines::write_answer(out, 0, answer);
     }
-    let regrouped = &list[..loaded.count];
+    let regrouped = &list[..lines.count];
     let place = telling::tell_choices(out, 0, regrouped);
     output_lines::write_answer(out, place, Answer::Done)
 }
@@ -34,9 +34,9 @@ fn regroup_started(start: &TextStart, out: &mut [u8; OUTPUT]) -> usize
 pub fn regroup_text(text: &[u8], out: &mut [u8; OUTPUT]) -> usize
     ensures { (result ≡ length (regroup_program text.now)) × (out.new ≡ fronted (regroup_program text.now) out.old) }
 {
-    let started = handed_out::start_text(text);
-    match &started {
-        Ok(start) => regroup_started(start, out),
+    let mut lines = Lines::new();
+    match handed_out::start_in(text, &mut lines) {
+        Ok(config) => regroup_started(&lines, &config, out),
         Err(refusal) => output_lines::write_refusal(out, 0, refusal.answer, refusal.line),
     }
 }

@@ -4,24 +4,24 @@
 
 ghost use Rattle.std.specs.Prelude.{◌≡◌, List, ℕ, Ok, length};
 ghost use Rattle.texts.specs.Answered.{answered};
-ghost use Rattle.handed_out.specs.Starts.{starts_as};
+ghost use Rattle.handed_out.specs.Starts.{started, starts_as};
 ghost use Rattle.outputs.specs.Programs.{run_program};
 ghost use Rattle.handed_runs.specs.HandedRuns.{fronted};
 
-use handed_out::TextStart;
+use configs::Config;
+use gathering::Lines;
 use tables::Program;
 use telling::OUTPUT;
 
 // What it writes of a text that is loaded and started. Not inlined, so that what a run needs of the stack is not there while a text is loaded.
 #[inline(never)]
-fn run_started(start: &TextStart, out: &mut [u8; OUTPUT]) -> usize
-    requires { (text : List ℕ) × (Ok start.now ≡ starts_as (answered text)) }
-    ensures { (text : List ℕ) → Ok start.now ≡ starts_as (answered text) → (result ≡ length (run_program text)) × (out.new ≡ fronted (run_program text) out.old) }
+fn run_started(lines: &Lines, config: &Config, out: &mut [u8; OUTPUT]) -> usize
+    requires { (text : List ℕ) × (Ok (started lines.now config.now) ≡ starts_as (answered text)) }
+    ensures { (text : List ℕ) → Ok (started lines.now config.now) ≡ starts_as (answered text) → (result ≡ length (run_program text)) × (out.new ≡ fronted (run_program text) out.old) }
 {
-    let loaded = &start.loaded;
-    let choices = &loaded.choices[..loaded.count];
+    let choices = &lines.choices[..lines.count];
     let mut rules: [u8; Program::CHOICES] = [0; Program::CHOICES];
-    let ran = running::run_from(&loaded.program, &start.config, choices, &mut rules);
+    let ran = running::run_from(&lines.program, config, choices, &mut rules);
     let end = ran.end;
     let taken = &rules[..end.steps];
     let place = telling::tell_steps(out, 0, choices, taken);
@@ -33,9 +33,9 @@ fn run_started(start: &TextStart, out: &mut [u8; OUTPUT]) -> usize
 pub fn run_text(text: &[u8], out: &mut [u8; OUTPUT]) -> usize
     ensures { (result ≡ length (run_program text.now)) × (out.new ≡ fronted (run_program text.now) out.old) }
 {
-    let started = handed_out::start_text(text);
-    match &started {
-        Ok(start) => run_started(start, out),
+    let mut lines = Lines::new();
+    match handed_out::start_in(text, &mut lines) {
+        Ok(config) => run_started(&lines, &config, out),
         Err(refusal) => output_lines::write_refusal(out, 0, refusal.answer, refusal.line),
     }
 }

@@ -1,21 +1,14 @@
--- `handed_out::start_text` meets its contract: a refusal is the loader's, and what is loaded is never refused a start. Assumes nothing.
-use Rattle.std.proofs.Common.{ap, sym, ◌∙◌, refl}
+-- `handed_out::start_text` meets its contract: what the lines hold is handed out, or the refusal. Assumes nothing.
 use Rattle.std.proofs.lemmas.Result.{err_from_is_err_and}
-use Rattle.tabled.specs.Tabled.{handed, loads_of}
-use Rattle.handed_out.specs.Called.{starts_fine}
-use Rattle.handed_out.specs.Starts.{starts_refused, starts_loaded}
 use Rattle.handed_out.proofs.start_text.Goals as goal
 
-pub load_in-requires : goal.load_in-requires
-load_in-requires c = c.new-lines.ensures
+pub start_in-requires : goal.start_in-requires
+start_in-requires c = c.new-lines.ensures
 
-pub returns-in_err-load_in : goal.returns-in_err-load_in
-returns-in_err-load_in c =
+pub returns-in_err-config : goal.returns-in_err-config
+returns-in_err-config c =
     let p = err_from_is_err_and c.from_residual.result c.from_residual.ensures.1 in
-    rw (p.1, p.2) (starts_refused c.args.text.now _ c.in_err-load_in.ensures.refused)
-
-pub unreachable-requires : goal.unreachable-requires
-unreachable-requires c = c.in_default.not-Ok _ (c.start.ensures ∙ starts_fine c.args.text.now (ap handed (c.in_ok-load_in.ensures.handed refl) ∙ loads_of _) refl)
+    rw (p.1, p.2) c.in_err-config.ensures.refused
 
 pub returns : goal.returns
-returns c = starts_loaded c.args.text.now _ c.in-Ok.config (c.in_ok-load_in.ensures.handed refl) (sym c.in-Ok.is ∙ c.start.ensures)
+returns c = c.in_ok-config.ensures.handed

@@ -13,7 +13,7 @@ use Rattle.grouping.specs.Grouping.{refusal_of}
 use Rattle.handed_runs.specs.HandedRuns.{regroup_of, numbers_of, fronted}
 use Rattle.writing.specs.Wrote.{Room, Wrote}
 use Rattle.handed_out.specs.Called.{words_count, words_within, table_length}
-use Rattle.handed_out.specs.Starts.{starts_handed, starts_configured}
+use Rattle.handed_out.specs.Starts.{started, starts_handed, starts_configured}
 use Rattle.regroup_text.specs.Calls.{answer_room, refused_answers, list_within, choices_room, last_room, list_answers, done_as}
 use Rattle.regroup_text.proofs.regroup_started.Goals as goal
 
@@ -36,21 +36,21 @@ some a b h = go (eqb (number a) 0) refl h
 pub shared_ref_as_front-choices : goal.shared_ref_as_front-choices
 shared_ref_as_front-choices c =
     let t = c.requires.0 in
-    let e = starts_handed t c.args.start.now c.requires.1 in
-    let h : c.args.start.now.loaded.count ≤ 4096 = omega (arith, words_within t e refl, table_length t e refl) in
+    let e = starts_handed t (started c.args.lines.now c.args.config.now) c.requires.1 in
+    let h : (started c.args.lines.now c.args.config.now).loaded.count ≤ 4096 = omega (arith, words_within t e refl, table_length t e refl) in
     h
 
 pub slice_bounds-choices-end : goal.slice_bounds-choices-end
-slice_bounds-choices-end c = words_count c.requires.0 (starts_handed c.requires.0 c.args.start.now c.requires.1) refl
+slice_bounds-choices-end c = words_count c.requires.0 (starts_handed c.requires.0 (started c.args.lines.now c.args.config.now) c.requires.1) refl
 
 pub write_answer-requires : goal.write_answer-requires
 write_answer-requires c = answer_room c.in-Err.answer c.args.out.now (omega (arith, c.told-out))
 
 pub returns-in-Err : goal.returns-in-Err
 returns-in-Err c t is =
-    let e = starts_handed t c.args.start.now is in
-    let k = starts_configured t c.args.start.now is in
-    let q = c.args.start.now.loaded in
+    let e = starts_handed t (started c.args.lines.now c.args.config.now) is in
+    let k = starts_configured t (started c.args.lines.now c.args.config.now) is in
+    let q = (started c.args.lines.now c.args.config.now).loaded in
     let l : List ℕ = take q.count q.choices in
     let n : ℕ = length (replicate {A = ℕ} CHOICES 0) in
     let w = c.regroup.ensures.1 ∙ ap (λ (d : Config). fronted (numbers_of (regroup_of q.program d l n)) (replicate CHOICES 0)) k in
@@ -61,9 +61,9 @@ pub slice_bounds-list-end : goal.slice_bounds-list-end
 slice_bounds-list-end c =
     let t = c.requires.0 in
     let is = c.requires.1 in
-    let e = starts_handed t c.args.start.now is in
-    let k = starts_configured t c.args.start.now is in
-    let q = c.args.start.now.loaded in
+    let e = starts_handed t (started c.args.lines.now c.args.config.now) is in
+    let k = starts_configured t (started c.args.lines.now c.args.config.now) is in
+    let q = (started c.args.lines.now c.args.config.now).loaded in
     let l : List ℕ = take q.count q.choices in
     let n : ℕ = length (replicate {A = ℕ} CHOICES 0) in
     let w = c.regroup.ensures.1 ∙ ap (λ (d : Config). fronted (numbers_of (regroup_of q.program d l n)) (replicate CHOICES 0)) k in
@@ -76,9 +76,9 @@ pub slice_bounds-regrouped-end : goal.slice_bounds-regrouped-end
 slice_bounds-regrouped-end c =
     let t = c.requires.0 in
     let is = c.requires.1 in
-    let e = starts_handed t c.args.start.now is in
-    let k = starts_configured t c.args.start.now is in
-    let q = c.args.start.now.loaded in
+    let e = starts_handed t (started c.args.lines.now c.args.config.now) is in
+    let k = starts_configured t (started c.args.lines.now c.args.config.now) is in
+    let q = (started c.args.lines.now c.args.config.now).loaded in
     let l : List ℕ = take q.count q.choices in
     let n : ℕ = length (replicate {A = ℕ} CHOICES 0) in
     let w = c.regroup.ensures.1 ∙ ap (λ (d : Config). fronted (numbers_of (regroup_of q.program d l n)) (replicate CHOICES 0)) k in
@@ -91,9 +91,9 @@ pub tell_choices-place-requires : goal.tell_choices-place-requires
 tell_choices-place-requires c =
     let t = c.requires.0 in
     let is = c.requires.1 in
-    let e = starts_handed t c.args.start.now is in
-    let k = starts_configured t c.args.start.now is in
-    let q = c.args.start.now.loaded in
+    let e = starts_handed t (started c.args.lines.now c.args.config.now) is in
+    let k = starts_configured t (started c.args.lines.now c.args.config.now) is in
+    let q = (started c.args.lines.now c.args.config.now).loaded in
     let l : List ℕ = take q.count q.choices in
     let n : ℕ = length (replicate {A = ℕ} CHOICES 0) in
     let w = c.regroup.ensures.1 ∙ ap (λ (d : Config). fronted (numbers_of (regroup_of q.program d l n)) (replicate CHOICES 0)) k in
@@ -106,9 +106,9 @@ pub write_answer-requires-2 : goal.write_answer-requires-2
 write_answer-requires-2 c =
     let t = c.requires.0 in
     let is = c.requires.1 in
-    let e = starts_handed t c.args.start.now is in
-    let k = starts_configured t c.args.start.now is in
-    let q = c.args.start.now.loaded in
+    let e = starts_handed t (started c.args.lines.now c.args.config.now) is in
+    let k = starts_configured t (started c.args.lines.now c.args.config.now) is in
+    let q = (started c.args.lines.now c.args.config.now).loaded in
     let l : List ℕ = take q.count q.choices in
     let n : ℕ = length (replicate {A = ℕ} CHOICES 0) in
     let w = c.regroup.ensures.1 ∙ ap (λ (d : Config). fronted (numbers_of (regroup_of q.program d l n)) (replicate CHOICES 0)) k in
@@ -121,9 +121,9 @@ write_answer-requires-2 c =
 
 pub returns : goal.returns
 returns c t is =
-    let e = starts_handed t c.args.start.now is in
-    let k = starts_configured t c.args.start.now is in
-    let q = c.args.start.now.loaded in
+    let e = starts_handed t (started c.args.lines.now c.args.config.now) is in
+    let k = starts_configured t (started c.args.lines.now c.args.config.now) is in
+    let q = (started c.args.lines.now c.args.config.now).loaded in
     let l : List ℕ = take q.count q.choices in
     let n : ℕ = length (replicate {A = ℕ} CHOICES 0) in
     let w = c.regroup.ensures.1 ∙ ap (λ (d : Config). fronted (numbers_of (regroup_of q.program d l n)) (replicate CHOICES 0)) k in

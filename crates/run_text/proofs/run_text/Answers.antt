@@ -7,19 +7,22 @@ use Rattle.handed_out.specs.Starts.{refused_handed, refused_above}
 use Rattle.run_text.specs.Calls.{refusal_answers}
 use Rattle.run_text.proofs.run_text.Goals as goal
 
+pub start_in-requires : goal.start_in-requires
+start_in-requires c = c.new-lines.ensures
+
 pub write_refusal-requires : goal.write_refusal-requires
 write_refusal-requires c =
-    let e = refused_handed c.args.text.now c.in-Err.refusal (sym c.in-Err.is ∙ c.start_text-started.ensures) in
+    let e = refused_handed c.args.text.now c.in-Err.refusal c.in-Err.ensures.refused in
     let f : c.in-Err.refusal.line < 2 ^ 64 = search rules in
     refusal_room c.args.text.now e c.args.out.now (omega (arith, c.told-out)) f
 
 pub returns-in-Err : goal.returns-in-Err
 returns-in-Err c =
-    let is = sym c.in-Err.is ∙ c.start_text-started.ensures in
+    let is = c.in-Err.ensures.refused in
     refusal_answers c.args.text.now (refused_handed c.args.text.now c.in-Err.refusal is) (refused_above c.args.text.now c.in-Err.refusal is) c.write_refusal.ensures
 
 pub run_started-requires : goal.run_started-requires
-run_started-requires c = (c.args.text.now, sym c.in-Ok.is ∙ c.start_text-started.ensures)
+run_started-requires c = (c.args.text.now, c.in-Ok.ensures.handed)
 
 pub returns-in-Ok : goal.returns-in-Ok
-returns-in-Ok c = c.run_started.ensures c.args.text.now (sym c.in-Ok.is ∙ c.start_text-started.ensures)
+returns-in-Ok c = c.run_started.ensures c.args.text.now c.in-Ok.ensures.handed
