@@ -14,5 +14,9 @@ pub fn sound(program: &Program) -> bool
     // 2, as far as 20 names it: linear in the variables, the statements and their pairs; 3: linear in the kinds times the variables; 4 to 9
     sizing::orderly(program)
         && sizing::sized(program.kinds, &program.variable_of, &program.exprs)
-        && judging::judge(program).is_ok()
+        && {
+            // stays: may not change: the edit without_a_state, which asks what is judged for another answer
+            let judged = judging::judge(program);
+            judged.is_ok()
+        }
 }

@@ -7,8 +7,8 @@ use Rattle.soundly.specs.Soundly.{few_kinds, no_order, no_size, all_told}
 use Rattle.soundly.proofs.sound.Goals as goal
 use Rattle.soundly.proofs.sound.Goals.{then-orderly, else-orderly}
 
-pub judge-requires : goal.judge-requires
-judge-requires c =
+pub judge-judged-requires : goal.judge-judged-requires
+judge-judged-requires c =
     let q = c.args.program.now in
     elim c.if-orderly.branch [
       | then-orderly w ↦ few_kinds (program_of q) (sym (w.sized.ensures (program_of q) q.event_types q.variable_type q.stmts q.inits q.action_of q.action_body q.state_of q.state_entry q.state_exit q.defers (tabled_program q)) ∙ sym w.value-is ∙ c.if-sized.true)
@@ -23,7 +23,7 @@ returns-then-sized c =
       | then-orderly w ↦
           let o = sym (c.orderly.ensures p q.state_of q.state_entry q.state_exit q.defers refl refl refl) ∙ w.if-orderly.true in
           let s = sym (w.sized.ensures p q.event_types q.variable_type q.stmts q.inits q.action_of q.action_body q.state_of q.state_entry q.state_exit q.defers (tabled_program q)) ∙ sym w.value-is ∙ c.if-sized.true in
-          (rw c.judge.ensures at c.is_ok.ensures.value) ∙ result_done (verdict p) ∙ all_told p o s (verdict p) refl
+          (rw c.judge-judged.ensures at c.is_ok.ensures.value) ∙ result_done (verdict p) ∙ all_told p o s (verdict p) refl
       | else-orderly w ↦ cc
     ]
 
