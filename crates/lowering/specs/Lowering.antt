@@ -1,36 +1,71 @@
 -- What is asked of a program, what a turn over a row adds to the names of the rows before it, and the line of a fault.
-use Rattle.std.specs.Prelude.{ℕ, ◌+◌, ◌<◌, ◌≡◌, Bool, true, false, not, ◌&&◌, ◌||◌, List, [], ◌∷◌, ◌++◌, map, length, take}
+use Rattle.std.specs.Prelude.{ℕ, ◌+◌, ◌*◌, ◌<◌, ◌≡◌, Bool, true, false, not, ◌&&◌, ◌||◌, List, [], ◌∷◌, ◌++◌, map, length, take}
 use Rattle.std.proofs.Math.Path.{refl}
 use Rattle.std.proofs.Common.{ap, sym, ◌∙◌}
 use Rattle.std.proofs.lemmas.List.{map-append}
 use Rattle.lists.specs.Lists.{at, flat}
 use Rattle.lists.specs.Keep.{flat_snoc}
+use Rattle.programs.specs.Sizes.{KINDS, EVENTS, VARIABLES}
 use Rattle.programs.specs.Program.{Program}
 use Rattle.soundness.specs.Asked.{lower}
 use Rattle.soundness.specs.Sound.{lines, first_fault}
 use Rattle.tables.specs.declared.Program.{Program as Tables}
-use Rattle.tables.specs.Decode.{exprs_of, stmts_of, actions_of, states_of, program_of}
+use Rattle.tables.specs.Decode.{count, exprs_of, stmts_of, actions_of, states_of, program_of}
+use Rattle.tables.specs.Tables.{events_length, variables_length, exprs_length, stmts_length, actions_length, states_length}
 use Rattle.faults.specs.declared.Counts.{Counts}
 use Rattle.faults.specs.Faults.{onward, joined, joined_none, joined_last, onward_onward, row_fault, fault_nothing, taken_more, moves_free, states_fault, tables_fault, lines_fault}
-use Rattle.faults.specs.Read.{Counted}
+use Rattle.faults.specs.Read.{Counted, Rows}
 
 -- WHAT IS ASKED of a program: the expressions, statements, actions and states of the code's tables, whatever a state defers
-pub record TellsParts (p : Program) (q : Tables) : Type 0 where
+pub record HasParts (p : Program) (q : Tables) : Type 0 where
   pub same_exprs : p.exprs ≡ exprs_of q.exprs
   pub same_stmts : p.stmts ≡ stmts_of q.stmts q.inits
   pub same_actions : p.actions ≡ actions_of q.action_of q.action_body
   pub flags : List ℕ
   pub same_states : p.states ≡ states_of q.state_of q.state_entry q.state_exit flags
 
--- LAW FOR CALLERS: so is the program that the tables are
+-- and as many events, kinds and variables as they have, whatever these are
+pub record TellsParts (p : Program) (q : Tables) : Type 0 where
+  pub events : length p.events ≡ count EVENTS q.event_types
+  pub machines : p.machines ≡ q.kinds
+  pub variables : length p.variables ≡ count (KINDS * VARIABLES) q.variable_of
+  pub same_exprs : p.exprs ≡ exprs_of q.exprs
+  pub same_stmts : p.stmts ≡ stmts_of q.stmts q.inits
+  pub same_actions : p.actions ≡ actions_of q.action_of q.action_body
+  pub flags : List ℕ
+  pub same_states : p.states ≡ states_of q.state_of q.state_entry q.state_exit flags
+
+-- LAWS FOR CALLERS, who hand in what `faults::count_rows` counts: what was counted are the program's rows,
+pub counted_parts : {p : Program} {q : Tables} {c : Counts} → TellsParts p q → Rows q c → Counted p c
+counted_parts {p} {q} {c} t n = record {
+  events = t.events ∙ sym n.events;
+  machines = t.machines ∙ sym n.machines;
+  variables = t.variables ∙ sym n.variables;
+  exprs = ap length t.same_exprs ∙ exprs_length q.exprs ∙ sym n.exprs;
+  stmts = ap length t.same_stmts ∙ stmts_length q.stmts q.inits ∙ sym n.stmts;
+  actions = ap length t.same_actions ∙ actions_length q.action_of q.action_body ∙ sym n.actions;
+  states = ap length t.same_states ∙ states_length q.state_of q.state_entry q.state_exit t.flags ∙ sym n.states;
+}
+
+-- it has the parts,
+pub has_parts : {p : Program} {q : Tables} → TellsParts p q → HasParts p q
+has_parts t = record { same_exprs = t.same_exprs; same_stmts = t.same_stmts; same_actions = t.same_actions; flags = t.flags; same_states = t.same_states }
+
+-- and the program that the tables are is such
 pub tells_parts_program : (q : Tables) → TellsParts (program_of q) q
 tells_parts_program q = record {
+  events = events_length q.event_types;
+  machines = refl;
+  variables = variables_length q.variable_of q.variable_type;
   same_exprs = refl;
   same_stmts = refl;
   same_actions = refl;
   flags = q.defers;
   same_states = refl;
 }
+
+pub has_parts_program : (q : Tables) → HasParts (program_of q) q
+has_parts_program q = has_parts (tells_parts_program q)
 
 -- NAMES
 module _ {A : Type 0} (d : A) (l : List A) (i : ℕ) (h : i < length l) where

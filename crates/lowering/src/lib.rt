@@ -15,7 +15,7 @@ ghost use Rattle.faults.specs.Faults.{row_fault};
 ghost use Rattle.faults.specs.Lines.{line_of, number_of};
 ghost use Rattle.faults.specs.Read.{Counted, Small};
 ghost use Rattle.doubling.specs.Doubling.{Seen};
-ghost use Rattle.lowering.specs.Lowering.{TellsParts};
+ghost use Rattle.lowering.specs.Lowering.{HasParts};
 
 use doubling::{NUMBERS, name, name_exprs, name_operands, name_parts, name_two};
 use faults::{Counts, fault, joined, onward};
@@ -124,7 +124,7 @@ fn states_lower(program: &Program, done: &mut [u8; NUMBERS]) -> Option<usize>
 // ANSWER 5: the first line with a part that is not lower, or that is named again, of a program with c's rows. Linear in the lines, their pairs and the marks.
 pub fn lower(c: Counts, program: &Program) -> Option<usize>
     requires { Small c }
-    ensures { (p : Lines) → Counted p c → TellsParts p program.now → result ≡ line_of (first_fault 1 (lines p (lower p))) }
+    ensures { (p : Lines) → Counted p c → HasParts p program.now → result ≡ line_of (first_fault 1 (lines p (lower p))) }
 {
     let mut seen: [u8; NUMBERS] = [0; NUMBERS];
     let e = exprs_lower(program, &mut seen);

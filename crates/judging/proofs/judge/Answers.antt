@@ -6,8 +6,7 @@ use Rattle.answers.specs.declared.Answer.TheVariants.{NotThere, NotLower, Double
 use Rattle.soundness.specs.Asked.{refers, lower, own, single, quiet, low}
 use Rattle.tables.specs.Decode.{program_of}
 use Rattle.faults.specs.Asking.{told_program}
-use Rattle.faults.specs.Read.{counted}
-use Rattle.lowering.specs.Lowering.{tells_parts_program}
+use Rattle.lowering.specs.Lowering.{counted_parts, tells_parts_program, has_parts_program}
 use Rattle.marks.specs.Marks.{stated_program, peopled_program}
 use Rattle.quietness.specs.Quiet.{told_states_program}
 use Rattle.judging.specs.Judging.{result_of, tabled_program, moving_program, from_five, after_five, from_six, from_seven, from_eight, pass_met, pass_on, pass_end, with_states, without_state, result_is}
@@ -26,7 +25,7 @@ returns-in_err-refuse-2 c =
     let p = program_of q in
     let same : c.from_residual-in_err-refuse-2.result ≡ c.refuse-2.result = search rules in
     result_is p _ (pass_on p NotThere (refers p) _ _ (c.refers.ensures p (tabled_program q) (moving_program q) refl) c.refuse.ensures (from_five p) _ _ c.in_ok-refuse.was
-    (same ∙ pass_end p NotLower (lower p) _ _ (c.lower.ensures p (counted (tabled_program q) c.count_rows-rows.ensures.rows) (tells_parts_program q)) c.refuse-2.ensures (after_five p) _ refl c.in_err-refuse-2.was))
+    (same ∙ pass_end p NotLower (lower p) _ _ (c.lower.ensures p (counted_parts (tells_parts_program q) c.count_rows-rows.ensures.rows) (has_parts_program q)) c.refuse-2.ensures (after_five p) _ refl c.in_err-refuse-2.was))
 
 pub returns-in_err-refuse-3 : goal.returns-in_err-refuse-3
 returns-in_err-refuse-3 c =
@@ -34,7 +33,7 @@ returns-in_err-refuse-3 c =
     let p = program_of q in
     let same : c.from_residual-in_err-refuse-3.result ≡ c.refuse-3.result = search rules in
     result_is p _ (pass_on p NotThere (refers p) _ _ (c.refers.ensures p (tabled_program q) (moving_program q) refl) c.refuse.ensures (from_five p) _ _ c.in_ok-refuse.was
-    (pass_on p NotLower (lower p) _ _ (c.lower.ensures p (counted (tabled_program q) c.count_rows-rows.ensures.rows) (tells_parts_program q)) c.refuse-2.ensures (after_five p) _ _ c.in_ok-refuse-2.was
+    (pass_on p NotLower (lower p) _ _ (c.lower.ensures p (counted_parts (tells_parts_program q) c.count_rows-rows.ensures.rows) (has_parts_program q)) c.refuse-2.ensures (after_five p) _ _ c.in_ok-refuse-2.was
     (same ∙ pass_end p NotThere (own p) _ _ (c.own.ensures p (told_program q) (c.served-served.ensures p (peopled_program q))) c.refuse-3.ensures (from_six p) _ refl c.in_err-refuse-3.was)))
 
 pub returns-in_err-refuse-4 : goal.returns-in_err-refuse-4
@@ -43,7 +42,7 @@ returns-in_err-refuse-4 c =
     let p = program_of q in
     let same : c.from_residual-in_err-refuse-4.result ≡ c.refuse-4.result = search rules in
     result_is p _ (pass_on p NotThere (refers p) _ _ (c.refers.ensures p (tabled_program q) (moving_program q) refl) c.refuse.ensures (from_five p) _ _ c.in_ok-refuse.was
-    (pass_on p NotLower (lower p) _ _ (c.lower.ensures p (counted (tabled_program q) c.count_rows-rows.ensures.rows) (tells_parts_program q)) c.refuse-2.ensures (after_five p) _ _ c.in_ok-refuse-2.was
+    (pass_on p NotLower (lower p) _ _ (c.lower.ensures p (counted_parts (tells_parts_program q) c.count_rows-rows.ensures.rows) (has_parts_program q)) c.refuse-2.ensures (after_five p) _ _ c.in_ok-refuse-2.was
     (pass_on p NotThere (own p) _ _ (c.own.ensures p (told_program q) (c.served-served.ensures p (peopled_program q))) c.refuse-3.ensures (from_six p) _ _ c.in_ok-refuse-3.was
     (same ∙ pass_end p Doubled (single p) _ _ (c.single.ensures p q.variable_type q.inits q.action_body q.state_entry q.state_exit q.defers (tabled_program q) (moving_program q) (pass_met p NotThere (refers p) _ _ (c.refers.ensures p (tabled_program q) (moving_program q) refl) c.refuse.ensures _ c.in_ok-refuse.was)) c.refuse-4.ensures (from_seven p) _ refl c.in_err-refuse-4.was))))
 
@@ -53,7 +52,7 @@ returns-in_err-refuse-5 c =
     let p = program_of q in
     let same : c.from_residual-in_err-refuse-5.result ≡ c.refuse-5.result = search rules in
     result_is p _ (pass_on p NotThere (refers p) _ _ (c.refers.ensures p (tabled_program q) (moving_program q) refl) c.refuse.ensures (from_five p) _ _ c.in_ok-refuse.was
-    (pass_on p NotLower (lower p) _ _ (c.lower.ensures p (counted (tabled_program q) c.count_rows-rows.ensures.rows) (tells_parts_program q)) c.refuse-2.ensures (after_five p) _ _ c.in_ok-refuse-2.was
+    (pass_on p NotLower (lower p) _ _ (c.lower.ensures p (counted_parts (tells_parts_program q) c.count_rows-rows.ensures.rows) (has_parts_program q)) c.refuse-2.ensures (after_five p) _ _ c.in_ok-refuse-2.was
     (pass_on p NotThere (own p) _ _ (c.own.ensures p (told_program q) (c.served-served.ensures p (peopled_program q))) c.refuse-3.ensures (from_six p) _ _ c.in_ok-refuse-3.was
     (pass_on p Doubled (single p) _ _ (c.single.ensures p q.variable_type q.inits q.action_body q.state_entry q.state_exit q.defers (tabled_program q) (moving_program q) (pass_met p NotThere (refers p) _ _ (c.refers.ensures p (tabled_program q) (moving_program q) refl) c.refuse.ensures _ c.in_ok-refuse.was)) c.refuse-4.ensures (from_seven p) _ _ c.in_ok-refuse-4.was
     (same ∙ pass_end p ExitLeaves (quiet p) _ _ (c.quiet.ensures p (told_states_program q)) c.refuse-5.ensures (from_eight p) _ refl c.in_err-refuse-5.was)))))
@@ -64,7 +63,7 @@ returns-in_err-refuse-6 c =
     let p = program_of q in
     let same : c.from_residual-in_err-refuse-6.result ≡ c.refuse-6.result = search rules in
     result_is p _ (pass_on p NotThere (refers p) _ _ (c.refers.ensures p (tabled_program q) (moving_program q) refl) c.refuse.ensures (from_five p) _ _ c.in_ok-refuse.was
-    (pass_on p NotLower (lower p) _ _ (c.lower.ensures p (counted (tabled_program q) c.count_rows-rows.ensures.rows) (tells_parts_program q)) c.refuse-2.ensures (after_five p) _ _ c.in_ok-refuse-2.was
+    (pass_on p NotLower (lower p) _ _ (c.lower.ensures p (counted_parts (tells_parts_program q) c.count_rows-rows.ensures.rows) (has_parts_program q)) c.refuse-2.ensures (after_five p) _ _ c.in_ok-refuse-2.was
     (pass_on p NotThere (own p) _ _ (c.own.ensures p (told_program q) (c.served-served.ensures p (peopled_program q))) c.refuse-3.ensures (from_six p) _ _ c.in_ok-refuse-3.was
     (pass_on p Doubled (single p) _ _ (c.single.ensures p q.variable_type q.inits q.action_body q.state_entry q.state_exit q.defers (tabled_program q) (moving_program q) (pass_met p NotThere (refers p) _ _ (c.refers.ensures p (tabled_program q) (moving_program q) refl) c.refuse.ensures _ c.in_ok-refuse.was)) c.refuse-4.ensures (from_seven p) _ _ c.in_ok-refuse-4.was
     (pass_on p ExitLeaves (quiet p) _ _ (c.quiet.ensures p (told_states_program q)) c.refuse-5.ensures (from_eight p) _ _ c.in_ok-refuse-5.was
@@ -75,7 +74,7 @@ returns-then-stateful c =
     let q = c.args.program.now in
     let p = program_of q in
     result_is p _ (pass_on p NotThere (refers p) _ _ (c.refers.ensures p (tabled_program q) (moving_program q) refl) c.refuse.ensures (from_five p) _ _ c.in_ok-refuse.was
-    (pass_on p NotLower (lower p) _ _ (c.lower.ensures p (counted (tabled_program q) c.count_rows-rows.ensures.rows) (tells_parts_program q)) c.refuse-2.ensures (after_five p) _ _ c.in_ok-refuse-2.was
+    (pass_on p NotLower (lower p) _ _ (c.lower.ensures p (counted_parts (tells_parts_program q) c.count_rows-rows.ensures.rows) (has_parts_program q)) c.refuse-2.ensures (after_five p) _ _ c.in_ok-refuse-2.was
     (pass_on p NotThere (own p) _ _ (c.own.ensures p (told_program q) (c.served-served.ensures p (peopled_program q))) c.refuse-3.ensures (from_six p) _ _ c.in_ok-refuse-3.was
     (pass_on p Doubled (single p) _ _ (c.single.ensures p q.variable_type q.inits q.action_body q.state_entry q.state_exit q.defers (tabled_program q) (moving_program q) (pass_met p NotThere (refers p) _ _ (c.refers.ensures p (tabled_program q) (moving_program q) refl) c.refuse.ensures _ c.in_ok-refuse.was)) c.refuse-4.ensures (from_seven p) _ _ c.in_ok-refuse-4.was
     (pass_on p ExitLeaves (quiet p) _ _ (c.quiet.ensures p (told_states_program q)) c.refuse-5.ensures (from_eight p) _ _ c.in_ok-refuse-5.was
@@ -87,7 +86,7 @@ returns-else-stateful c =
     let q = c.args.program.now in
     let p = program_of q in
     result_is p _ (pass_on p NotThere (refers p) _ _ (c.refers.ensures p (tabled_program q) (moving_program q) refl) c.refuse.ensures (from_five p) _ _ c.in_ok-refuse.was
-    (pass_on p NotLower (lower p) _ _ (c.lower.ensures p (counted (tabled_program q) c.count_rows-rows.ensures.rows) (tells_parts_program q)) c.refuse-2.ensures (after_five p) _ _ c.in_ok-refuse-2.was
+    (pass_on p NotLower (lower p) _ _ (c.lower.ensures p (counted_parts (tells_parts_program q) c.count_rows-rows.ensures.rows) (has_parts_program q)) c.refuse-2.ensures (after_five p) _ _ c.in_ok-refuse-2.was
     (pass_on p NotThere (own p) _ _ (c.own.ensures p (told_program q) (c.served-served.ensures p (peopled_program q))) c.refuse-3.ensures (from_six p) _ _ c.in_ok-refuse-3.was
     (pass_on p Doubled (single p) _ _ (c.single.ensures p q.variable_type q.inits q.action_body q.state_entry q.state_exit q.defers (tabled_program q) (moving_program q) (pass_met p NotThere (refers p) _ _ (c.refers.ensures p (tabled_program q) (moving_program q) refl) c.refuse.ensures _ c.in_ok-refuse.was)) c.refuse-4.ensures (from_seven p) _ _ c.in_ok-refuse-4.was
     (pass_on p ExitLeaves (quiet p) _ _ (c.quiet.ensures p (told_states_program q)) c.refuse-5.ensures (from_eight p) _ _ c.in_ok-refuse-5.was
