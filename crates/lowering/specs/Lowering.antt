@@ -16,7 +16,7 @@ use Rattle.faults.specs.declared.Counts.{Counts}
 use Rattle.faults.specs.Faults.{onward, joined, joined_none, joined_last, onward_onward, row_fault, fault_nothing, taken_more, moves_free, states_fault, tables_fault, lines_fault}
 use Rattle.faults.specs.Read.{Counted, Rows}
 
--- WHAT IS ASKED of a program: the expressions, statements, actions and states of the code's tables, whatever a state defers
+-- WHAT IS ASKED of a program, beside how many rows it has: the expressions, statements, actions and states of the code's tables, whatever a state defers
 pub record HasParts (p : Program) (q : Tables) : Type 0 where
   pub same_exprs : p.exprs ≡ exprs_of q.exprs
   pub same_stmts : p.stmts ≡ stmts_of q.stmts q.inits
@@ -24,7 +24,7 @@ pub record HasParts (p : Program) (q : Tables) : Type 0 where
   pub flags : List ℕ
   pub same_states : p.states ≡ states_of q.state_of q.state_entry q.state_exit flags
 
--- and as many events, kinds and variables as they have, whatever these are
+-- WHAT A CALLER KNOWS of one: that it has these, and as many events, kinds and variables as the tables, whatever they are
 pub record TellsParts (p : Program) (q : Tables) : Type 0 where
   pub events : length p.events ≡ count EVENTS q.event_types
   pub machines : p.machines ≡ q.kinds
@@ -35,7 +35,7 @@ pub record TellsParts (p : Program) (q : Tables) : Type 0 where
   pub flags : List ℕ
   pub same_states : p.states ≡ states_of q.state_of q.state_entry q.state_exit flags
 
--- LAWS FOR CALLERS, who hand in what `faults::count_rows` counts: what was counted are the program's rows,
+-- LAWS FOR CALLERS, who hand in what `faults::count_rows` counts: these are the rows of such a program,
 pub counted_parts : {p : Program} {q : Tables} {c : Counts} → TellsParts p q → Rows q c → Counted p c
 counted_parts {p} {q} {c} t n = record {
   events = t.events ∙ sym n.events;
@@ -47,11 +47,11 @@ counted_parts {p} {q} {c} t n = record {
   states = ap length t.same_states ∙ states_length q.state_of q.state_entry q.state_exit t.flags ∙ sym n.states;
 }
 
--- it has the parts,
+-- it has the parts;
 pub has_parts : {p : Program} {q : Tables} → TellsParts p q → HasParts p q
 has_parts t = record { same_exprs = t.same_exprs; same_stmts = t.same_stmts; same_actions = t.same_actions; flags = t.flags; same_states = t.same_states }
 
--- and the program that the tables are is such
+-- and the program that the tables are is such a one,
 pub tells_parts_program : (q : Tables) → TellsParts (program_of q) q
 tells_parts_program q = record {
   events = events_length q.event_types;
@@ -64,6 +64,7 @@ tells_parts_program q = record {
   same_states = refl;
 }
 
+-- and has the parts
 pub has_parts_program : (q : Tables) → HasParts (program_of q) q
 has_parts_program q = has_parts (tells_parts_program q)
 
